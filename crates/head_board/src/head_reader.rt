@@ -162,10 +162,10 @@ impl HeadReader {
         }
     }
 
-    /// Reads how far the board tells that an upload is at this moment: what [`HeadReader::look`] reads but the texts. The reader
-    /// has seen the events of the answer then. It takes no lock and no memory, and waits for nobody.
+    /// Reads on the board how far an upload is at this moment: what [`HeadReader::look`] reads but the texts. The reader has seen
+    /// the events of the answer then. It takes no lock and no memory, and waits for nobody.
     ///
-    /// `None` says that the reader has missed the board, as there. All else of the reader is as it was.
+    /// `None` says that the reader has missed the board, as [`HeadReader::look`] does. All else of the reader is as it was.
     pub fn progress(&mut self, name: &Name, now: Moment) -> Option<Result<Progress, Refusal>>
         ensures reads { IfSome result (ReadsProgress self.old.settings self.old.events self.new.events name.now now) }
         ensures sees { IfSome result (λ progress. self.new ≡ record self.old { events = self.new.events }) }
@@ -281,13 +281,13 @@ fn found_on(copy: &BoardCopy, query: &HeadQuery, row: &mut HeadRow) -> Found
     };
     Found {
         read,
-        seen: rests_on(copy, query),
+        seen: events_told(copy, query),
     }
 }
 
-// The events on which rests what a copy tells of an upload: those up to the last one that changed it, and what the reader had
-// seen. They are not all that the copy has.
-fn rests_on(copy: &BoardCopy, query: &HeadQuery) -> SeenEvents
+// The events on which rests what a copy tells of an upload. They are those up to the last one that changed it, and what the
+// reader had seen, and need not be all that the copy has.
+fn events_told(copy: &BoardCopy, query: &HeadQuery) -> SeenEvents
     requires { (last_of copy.now.last_changes query.now.name.id).book ≡ query.now.seen.book }
     ensures { IsMore (last_of copy.now.last_changes query.now.name.id) query.now.seen result }
 {
@@ -331,7 +331,7 @@ fn progress_on(copy: &BoardCopy, query: &HeadQuery) -> FoundProgress
     };
     FoundProgress {
         progress,
-        seen: rests_on(copy, query),
+        seen: events_told(copy, query),
     }
 }
 

@@ -23,10 +23,10 @@ fn place(alloc: Global) -> Result<Box<HeadRow>, AllocError> {
 // A reader finds the offset of acme's first upload, or why there is none.
 fn assert_seen(rt: &impl Abort, reader: &mut HeadReader, expected: Result<u64, Refusal>) {
     let mut row = HeadRow::empty();
+    let read = reader.look(&name(0, 1), moment(rt, 1000), &mut row);
     let progress = reader.progress(&name(0, 1), moment(rt, 1000));
     let so_far = progress.expect(rt, "entered");
     assert!(rt; so_far.map(|progress| progress.offset) == expected);
-    let read = reader.look(&name(0, 1), moment(rt, 1000), &mut row);
     let expected = expected.map(|offset| (offset, &b""[..]));
     let found = read.expect(rt, "entered").map(|()| row.lent());
     assert_shown(rt, &found, expected);

@@ -161,11 +161,12 @@ work_given rows =
     (at_once_given (is_set (codes "forever") rows) rows))
     (moment_set (number_given (codes "moment") rows))
 
--- the most bytes that an upload comes to: at most as many as all blocks have together
+-- the most bytes that an upload comes to: those of `--max-size`, or of all blocks together where these are fewer
 abbrev pub greatest_upload : Numbers → ℕ
 greatest_upload n = min n.max_size (n.blocks * n.block_size)
 
--- how many bytes of bodies and replies `run` holds where an upload comes to at most so many: 256 MiB more, where that is not told
+-- How many bytes of bodies and replies `run` holds where an upload comes to at most so many: 256 MiB more, where that is not
+-- told. More than a pool may have count as these, so the sum is a number; their settings are refused.
 abbrev pub run_body_memory : List Row → ℕ → ℕ
 run_body_memory rows most = unwrap_or (number_given (codes "body-memory") rows) (min most (pool_limit Wide) + 2 ^ 28)
 

@@ -4,7 +4,7 @@ use Rattle.std.specs.List.{before_first, list_any, position_or_len}
 use Rattle.std.specs.Str.{byte}
 use Rattle.tus_text.specs.Tenant.{is_tenant_name}
 use Rattle.upload_book.specs.declared.settings.Bounds.{Bounds}
-use Rattle.upload_book.specs.declared.settings.Bounds.TheVariants.{Narrow, Wide}
+use Rattle.upload_book.specs.declared.settings.Bounds.TheVariants.{Narrow}
 use Rattle.upload_book.specs.declared.settings.Numbers.{Numbers}
 use Rattle.upload_book.specs.declared.settings_fault.SettingsFault.{SettingsFault}
 use Rattle.upload_book.specs.declared.settings_fault.SettingsFault.TheVariants as settings

@@ -253,7 +253,7 @@ fn work_of(found: &ArgMatches) -> Option<WorkerOptions>
     ))
 }
 
-/// The most bytes that an upload comes to: at most as many as all blocks have together.
+/// The most bytes that an upload comes to: those of `--max-size`, or of all blocks together where these are fewer.
 fn greatest_upload(numbers: Numbers) -> u64
     ensures { result ≡ greatest_upload numbers }
 {
@@ -261,8 +261,9 @@ fn greatest_upload(numbers: Numbers) -> u64
     numbers.max_size.min(pool)
 }
 
-/// What each worker of `run` is asked for, where an upload comes to at most so many bytes; None where it is to hold no connection
-/// or more than 16,384, or a piece is to have fewer than 65,536 bytes or more than 1,048,576.
+/// What each worker of `run` is asked for, where an upload comes to at most so many bytes; more than a pool may have count as
+/// these, and their settings are refused. None where it is to hold no connection or more than 16,384, or a piece is to have fewer
+/// than 65,536 bytes or more than 1,048,576.
 fn run_work(found: &ArgMatches, most: u64) -> Option<WorkerOptions>
     ensures given { result ≡ run_work (rows_of (found_of found.now)) most }
     ensures grace { IfSome result (λ work. work.grace ≡ grace_given (rows_of (found_of found.now))) }

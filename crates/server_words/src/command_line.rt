@@ -26,10 +26,11 @@ At 2, 3, 4 and 5 standard error says why.";
 
 const RUN_HELP: &str = "\
 It is serve --forever --port 8080 --pieces 262144, with as many --blocks as the quotas sum to, the largest quota in bytes
-as --max-size, and 268435456 bytes more as --body-memory. Each of these but --forever can be told otherwise.
+as --max-size, and 268435456 bytes more than an upload can have as --body-memory. Each of these but --forever can be told
+otherwise.
 A quota is a number of blocks, or of bytes with KiB, MiB, GiB or TiB, of which the whole blocks count: with blocks of
 4096 bytes acme:262144 and acme:1GiB are the same. An upload takes a block for each that its bytes begin.
-All uploads are kept in memory that is taken at the start: as much as all quotas together, which is at most 2^30 bytes.
+All uploads are kept in memory that is asked for at the start: as much as all quotas together, which is at most 2^44 bytes.
 A GET holds the bytes of its upload once more until they are sent.
 Without --journal everything ends with the process: its end, or the end of the machine, loses all uploads. With it a
 folder has all of them, and the next start goes on from there, with the same tenants in the same order; new ones may
@@ -573,7 +574,7 @@ fn run_body_memory<'a>(alloc: Global) -> Arg<'a>
     ensures local { result.global ≡ false }
 {
     number_alone(alloc, "body-memory", "BYTES").help(
-        "How many bytes of bodies and replies that are under way are held; 268435456 above --max-size unless set",
+        "How many bytes of bodies and replies that are under way are held; 268435456 more than an upload can have unless set",
     )
 }
 
@@ -585,7 +586,7 @@ fn pieces<'a>(alloc: Global) -> Arg<'a>
     number_alone(alloc, "pieces", "BYTES")
         .value_parser(value_parser!(u64).range(65_536..1_048_577))
         .help(
-            "Store bodies without a checksum as they come, in pieces of so many bytes, 65536 to 1048576; --blocks may then be up to 4294967295, --block-size to 1048576, --max-size to 1099511627776",
+            "Store bodies without a checksum as they come, in pieces of so many bytes, 65536 to 1048576; --blocks may then be up to 4294967295, --block-size to 1048576, all blocks together 2^44 bytes, and --max-size up to 1099511627776",
         )
 }
 

@@ -37,9 +37,9 @@ use Rattle.upload_book.specs.Stored.{pieces_of, segment_of}
 use Rattle.upload_book.specs.inside.Pieces.{as_piece, no_chain, own_chain}
 use Rattle.upload_book.specs.Upload.{head_row_of, offset_of}
 
--- The book is ready for a PATCH: it sees the upload at the place and refuses nothing, the upload expires then, it will be so
--- far, its bytes cost so many blocks, and there is room for them, and for all that are to come behind them, in the list of
--- its blocks.
+-- The book is ready for a PATCH: it sees the upload at the place and refuses nothing. The upload expires so without the PATCH,
+-- and is so far after it, for which its tenant pays so many blocks. The list of its blocks has room for the bytes, and for
+-- all that are to come behind them.
 pub record IsReadyForChunk (b : StoredBook) (r : ReadyChunk) : Type 0 where
   pub there : r.name.tenant < length b.settings.tenants
   pub seen : IsVisibleIn b.store r.name.tenant r.name.id r.now r.place

@@ -43,7 +43,7 @@ impl Book {
     }
 }
 
-// A refusal as Memory, which tells when an upload expires.
+/// A refusal as Memory, which tells when an upload expires, if it does.
 pub(crate) fn refused_for_memory(expires: Option<Moment>) -> Refused
     ensures { result ≡ record { refusal = Memory; expires = expires } }
 {

@@ -16,6 +16,7 @@ use crate::settings::Numbers;
 /// How far an upload is: its row without the texts.
 #[derive(Clone, Copy, Debug, PartialEq, Eq)]
 pub struct Progress {
+    /// What it is for.
     pub kind: Kind,
     /// How many bytes it has.
     pub offset: u64,

@@ -33,7 +33,7 @@ pub(crate) struct ReadyChunk<'a> {
     pub(crate) chunk: Chunk<'a>,
     pub(crate) now: Moment,
     pub(crate) place: usize,
-    /// When the upload expires before them, if it does.
+    /// When the upload expires without the PATCH, if it does.
     pub(crate) expires: Option<Moment>,
     /// How far the upload is afterwards.
     pub(crate) after: Progress,

@@ -16,10 +16,10 @@ pub const TENANTS_MAX: usize = 16;
 /// How far the numbers that a server is set up with may go.
 #[derive(Clone, Copy, Debug, PartialEq, Eq)]
 pub enum Bounds {
-    /// There are at most 2^20 blocks of at most 2^16 bytes, together at most 2^30, and an upload has at most 2^24 bytes, so
-    /// the body of a request may be held as a whole.
+    /// There are at most 2^20 blocks of at most 2^16 bytes, together at most 2^30. An upload has at most 2^24 bytes, so the body
+    /// of a request may be held as a whole.
     Narrow,
-    /// There are at most 2^32 - 1 blocks of at most 2^20 bytes, together at most 2^44, and an upload has at most 2^40 bytes.
+    /// There are at most 2^32 - 1 blocks of at most 2^20 bytes, together at most 2^44. An upload has at most 2^40 bytes.
     Wide,
 }
 

@@ -180,10 +180,6 @@ module _ (b : StoredBook) (r : ReadyChunk) (kept : IsBook b) (ready : IsReadyFor
   chunk-charged charge is =
       charged-more b.charged (pays b r.name.tenant) chunk_blocks b.settings.numbers.last_total charge is (IsAppendable-from_none b.settings.numbers (account_at b r.name.tenant) u r.chunk ready.accepted).unspent
 
-  -- the upload will have the bytes after those before,
-  pub chunk-offset : r.after.offset ≡ offset_of u + length r.chunk.bytes
-  chunk-offset = ap (λ (s : Progress). s.offset) ready.after
-
   -- these are the accounts after it,
   pub chunk-accounts : (charge : ℕ) (accounts : Accounts) → charge ≡ pays b r.name.tenant + chunk_blocks → Tells b r.name.tenant charge accounts
       → accounts ≡ accounts_of (book_after_change (plain_of b) (change.Append r.name r.chunk) r.now)

@@ -2,7 +2,6 @@ use Rattle.std.proofs.Common.{◌≡◌, ◌≤◌, length, ℕ, ◌+◌, Option
 use Rattle.book_replay.specs.Replay.{Happens}
 use Rattle.upload_book.specs.Change.{CanBeMade, change_lacking}
 use Rattle.upload_book.specs.Lawful.{IsLawful}
-use Rattle.upload_book.specs.PlainBook.{PlainBook}
 use Rattle.upload_book.specs.Settings.{Settings}
 use Rattle.head_board.specs.Event.{Event}
 use Rattle.head_board.specs.Events.{book_at}

@@ -1,5 +1,5 @@
 use Rattle.std.proofs.Common.{ℕ, ◌<◌, Option, Err, length, ap, sym, subst, ◌∙◌, arith}
-use Rattle.upload_book.specs.Book.{IsBook, plain_of}
+use Rattle.upload_book.specs.Book.{IsBook}
 use Rattle.upload_book.specs.Change.{appended_in}
 use Rattle.upload_book.specs.declared.append.Refused.{Refused}
 use Rattle.upload_book.specs.declared.refusal.Refusal.TheVariants.{Memory}

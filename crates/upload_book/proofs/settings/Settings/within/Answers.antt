@@ -1,7 +1,7 @@
-use Rattle.std.proofs.Common.{◌≡◌, ap, sym, ◌∙◌, arith}
+use Rattle.std.proofs.Common.{ap, sym, ◌∙◌, arith}
 use Rattle.std.proofs.lemmas.List.{take_all}
 use Rattle.upload_book.specs.Refusal.{first_that_holds}
-use Rattle.upload_book.specs.Settings.{Settings, number_tests, tenant_tests, tenants_of}
+use Rattle.upload_book.specs.Settings.{number_tests, tenant_tests, tenants_of}
 use Rattle.upload_book.proofs.Lawful.FirstRefusal.{first-of-others}
 use Rattle.upload_book.proofs.Lawful.SettingsLemmas.{sound-within}
 use Rattle.upload_book.proofs.Lawful.TenantLists.{names_fit}
