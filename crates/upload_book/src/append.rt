@@ -10,9 +10,9 @@ ghost use Rattle.upload_book.specs.Refusal.{IsAnswer};
 
 use crate::book::Book;
 use crate::head_row::Name;
-use crate::lacking::refused_for_memory;
 use crate::moment::Moment;
 use crate::payload::Payload;
+use crate::prepare::refused_for_memory;
 use crate::progress::{Progress, append_refusal, blocks_added, refusal_by_row};
 use crate::ready::ReadyChunk;
 use crate::refusal::Refusal;

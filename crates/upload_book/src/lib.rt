@@ -19,7 +19,6 @@ mod final_back;
 mod head_note;
 mod head_row;
 mod kept_upload;
-mod lacking;
 pub mod laws;
 mod line;
 mod look;
