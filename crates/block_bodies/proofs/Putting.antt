@@ -1,10 +1,10 @@
 -- Bytes end a body: in a new block, in the last block, and piece by piece.
-use Rattle.std.proofs.Common.{◌≡◌, ℕ, ◌+◌, ◌*◌, ◌^◌, ◌-◌, ◌<◌, ◌≤◌, List, [], ◌∷◌, ◌++◌, length, get_or, take, drop, refl, ap, sym, ◌∙◌, ⊎_elim, arith, rules, append_assoc, append-nil, length-append, length-take, length-drop, length-set}
+use Rattle.std.proofs.Common.{◌≡◌, ℕ, ◌+◌, ◌*◌, ◌^◌, ◌-◌, ◌<◌, ◌≤◌, List, [], ◌∷◌, ◌++◌, length, get_or, take, drop, refl, ap, sym, subst, ◌∙◌, ⊎_elim, arith, rules, append_assoc, append-nil, length-append, length-take, length-drop, length-set}
 use Rattle.std.proofs.lemmas.List.{same_lists, places, take_at, take-take, take_all, take_more, length_push, get_or_push, get_or_read}
 use Rattle.std.proofs.lemmas.List.Concat.{flat_map-cons}
 use Rattle.std.proofs.lemmas.Bool.{cases_eq, cases_lt}
 use Rattle.block_pool.specs.Blocks.{Blocks, IsPool, Takes, size_of, count_at, bytes_at, free_in, places_of, bytes_of, over, written}
-use Rattle.block_pool.proofs.BlocksLaws.{count_at-taken, bytes_at-taken, free_in-taken, size_of-taken, block_size-taken, count_at-written, bytes_at-written_other, free_in-written, places_of-one_same, places_of-one_other, places_of-append, places_of-take, places_of-at, bytes_of-append, bytes_of-same, bytes_of-written, length-bytes_of, length-once}
+use Rattle.block_pool.proofs.BlocksLaws.{count_at-taken, bytes_at-taken, free_in-taken, size_of-taken, block_size-taken, count_at-written, bytes_at-written_other, free_in-written, places_of-one_same, places_of-one_other, places_of-append, places_of-take, places_of-at, bytes_of-append, bytes_of-same, bytes_of-written, written-same, length-bytes_of, length-once}
 use Rattle.block_bodies.specs.Bodies.{Chain, HasRoom, IsBodyOf, IsLastOwn, StandsOnce, blocks_with, content_of}
 use Rattle.block_bodies.specs.Changes.{Puts}
 use Rattle.block_bodies.proofs.BlocksFor.{blocks_for-is, blocks_for-suffice, times_le}
@@ -26,9 +26,9 @@ pub length-rest : (bytes : List ℕ) (done : ℕ) → length (take (length bytes
 length-rest bytes done = omega (arith, length-take (length bytes - done) (drop done bytes), length-drop done bytes)
 
 -- after a block is taken and written
-pub Puts-start : (p p' : Blocks) (x : Chain) (b : ℕ) (new : List ℕ) → IsPool p → IsBodyOf p x → x.len ≡ length x.blocks * p.block_size → 0 < length new → length new ≤ p.block_size → Takes p p' b
+Puts-written : (p p' : Blocks) (x : Chain) (b : ℕ) (new : List ℕ) → IsPool p → IsBodyOf p x → x.len ≡ length x.blocks * p.block_size → 0 < length new → length new ≤ p.block_size → Takes p p' b
     → Puts p x new (written p' b 0 new) (record { blocks = x.blocks ++ b ∷ []; len = x.len + length new; room = x.room })
-Puts-start p p' x b new pool body whole some fits t =
+Puts-written p p' x b new pool body whole some fits t =
     let q : Blocks = written p' b 0 new in
     let count_b : count_at p' b ≡ 1 = omega (arith, count_at-taken p p' b t b, t.free, places_of-one_same b) in
     let pos : 0 < count_at p' b = omega arith in
@@ -66,6 +66,14 @@ Puts-start p p' x b new pool body whole some fits t =
             rw (at, get_or_push x.blocks b 0 (length x.blocks) refl) (count_at-written p' b 0 new pos b ∙ count_b);
       };
     }
+
+-- after a block is taken that begins with the bytes
+pub Puts-start : (p p' : Blocks) (x : Chain) (b : ℕ) (new : List ℕ) → IsPool p → IsBodyOf p x → x.len ≡ length x.blocks * p.block_size → 0 < length new → length new ≤ p.block_size → Takes p p' b
+    → take (length new) (bytes_at p' b) ≡ new
+    → Puts p x new p' (record { blocks = x.blocks ++ b ∷ []; len = x.len + length new; room = x.room })
+Puts-start p p' x b new pool body whole some fits t first =
+    let P : Blocks → Type 0 = λ r. Puts p x new r (record { blocks = x.blocks ++ b ∷ []; len = x.len + length new; room = x.room }) in
+    subst P (written-same p' b new first) (Puts-written p p' x b new pool body whole some fits t)
 
 -- a list that is not empty, as its front and its last
 split_last : (list : List ℕ) (n : ℕ) → length list ≡ n + 1 → list ≡ take n list ++ get_or list n 0 ∷ []

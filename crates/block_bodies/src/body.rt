@@ -198,8 +198,7 @@ impl Body {
         ensures room_stays { self.new.room ≡ self.old.room }
     {
         let n = bytes.len().min(pool.block_size() as usize);
-        let block = pool.take().unwrap();
-        pool.write(block, 0, &bytes[..n]);
+        let block = pool.take_with(&bytes[..n]).unwrap();
         self.blocks.push_reserved(block);
         self.len += n as u64;
         n

@@ -1,10 +1,10 @@
 -- Laws for the crates above: the counts, the bytes and the number of free blocks after each change of a pool,
 -- and lists of blocks. A change of a count is said additively, by the places of the block in a list.
-use Rattle.std.proofs.Common.{◌≡◌, ℕ, suc, ◌+◌, ◌*◌, ◌-◌, ◌<◌, ◌≤◌, List, [], ◌∷◌, ◌++◌, length, get_or, take, cond, eqb, refl, ap, sym, ◌∙◌, subst, ⊎_elim, arith, zero-add, length-append, length-set}
+use Rattle.std.proofs.Common.{◌≡◌, ℕ, suc, ◌+◌, ◌*◌, ◌-◌, ◌<◌, ◌≤◌, List, [], ◌∷◌, ◌++◌, length, get_or, take, drop, cond, eqb, refl, ap, sym, ◌∙◌, subst, ⊎_elim, arith, zero-add, length-append, length-set}
 use Rattle.std.specs.List.{remove, sum_by, All, range_with_len}
 use Rattle.std.specs.Prelude.{◌==◌, nat_lt, count_by}
 use Rattle.std.proofs.lemmas.List.Elements.{All-from_get_or}
-use Rattle.std.proofs.lemmas.List.{get_or-set_same, get_or-set_other, get_or_past}
+use Rattle.std.proofs.lemmas.List.{get_or-set_same, get_or-set_other, get_or_past, set-get_or, take-append-drop}
 use Rattle.std.proofs.lemmas.List.Sums.{sum_by-set, sum_by-append, sum_by-take-le, sum_by_more, sum_by-remove, sum_by-le, get_or-le-sum_by, count_by-le-length}
 use Rattle.std.proofs.lemmas.List.Concat.{flat_map-append, flat_map-cons}
 use Rattle.std.proofs.lemmas.Bool.{cases_eq, cases_lt, eq-eqb, ne_eqb}
@@ -95,6 +95,15 @@ size_of-taken p q b t = ap (λ (r : Blocks). size_of r) t.after ∙ length-set p
 
 pub block_size-taken : (p q : Blocks) (b : ℕ) → Takes p q b → q.block_size ≡ p.block_size
 block_size-taken p q b t = ap (λ (r : Blocks). r.block_size) t.after
+
+-- bytes that a block begins with already are written there, and nothing changes
+pub written-same : (p : Blocks) (b : ℕ) (new : List ℕ) → take (length new) (bytes_at p b) ≡ new → written p b 0 new ≡ p
+written-same p b new first =
+    let bytes : over (bytes_at p b) 0 new ≡ bytes_at p b =
+    ap (λ (front : List ℕ). front ++ drop (0 + length new) (bytes_at p b)) (sym first)
+    ∙ ap (λ n. take (length new) (bytes_at p b) ++ drop n (bytes_at p b)) (zero-add (length new)) ∙ take-append-drop (length new) (bytes_at p b) in
+    ap (λ (bs : List ℕ). with_block p b (record { count = count_at p b; bytes = bs })) bytes
+    ∙ ap (λ (blocks : List Block). record p { blocks = blocks }) (set-get_or p.blocks b free_block)
 
 -- a held block is held once more
 pub count_at-held : (p : Blocks) (b : ℕ) → 0 < count_at p b → (c : ℕ) → count_at (held p b) c ≡ count_at p c + places_of c (b ∷ [])

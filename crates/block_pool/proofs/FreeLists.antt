@@ -1,6 +1,6 @@
 -- The free list after a block's count has changed.
-use Rattle.std.proofs.Common.{◌≡◌, ℕ, ◌+◌, ◌*◌, ◌<◌, ◌≤◌, List, [], ◌∷◌, ◌++◌, length, get_or, set, replicate, cond, eqb, count_by, refl, ap, ap₂, sym, ◌∙◌, subst, ⊎_elim, arith, length-append, length-set}
-use Rattle.std.proofs.lemmas.List.{length_push, get_or-set_same, get_or-set_other, get_or_append_left, get_or_push, length-replicate, take_at}
+use Rattle.std.proofs.Common.{◌≡◌, ℕ, ◌+◌, ◌*◌, ◌<◌, ◌≤◌, List, [], ◌∷◌, ◌++◌, length, get_or, set, cond, eqb, count_by, refl, ap, ap₂, sym, ◌∙◌, subst, ⊎_elim, arith, length-append, length-set}
+use Rattle.std.proofs.lemmas.List.{length_push, get_or-set_same, get_or-set_other, get_or_append_left, get_or_push, take_at}
 use Rattle.std.proofs.lemmas.Grind.{common_steps}
 use Rattle.std.proofs.lemmas.List.Sums.{sum_by-set, sum_by_push, count_by-le-length}
 use Rattle.std.proofs.lemmas.List.Elements.{All-nil, All-push, All-get_or, All-take}
@@ -148,13 +148,13 @@ stored-over size many counts bytes free counts_room bytes_room free_room at new 
 }
 
 -- the first block that was never taken has a count and bytes
-pub stored-first : (size many : ℕ) (counts bytes free : List ℕ) (counts_room bytes_room free_room counts_room' bytes_room' : ℕ) → IsStored size many counts bytes free counts_room bytes_room free_room
-    → free ≡ [] → length counts < many → counts_room ≤ counts_room' → bytes_room ≤ bytes_room'
-    → IsStored size many (counts ++ 1 ∷ []) (bytes ++ replicate size 0) free counts_room' bytes_room' free_room
-stored-first size many counts bytes free counts_room bytes_room free_room counts_room' bytes_room' s none left more more_bytes = record {
+pub stored-first : (size many : ℕ) (counts bytes free more : List ℕ) (counts_room bytes_room free_room counts_room' bytes_room' : ℕ) → IsStored size many counts bytes free counts_room bytes_room free_room
+    → length more ≡ size → free ≡ [] → length counts < many → counts_room ≤ counts_room' → bytes_room ≤ bytes_room'
+    → IsStored size many (counts ++ 1 ∷ []) (bytes ++ more) free counts_room' bytes_room' free_room
+stored-first size many counts bytes free more counts_room bytes_room free_room counts_room' bytes_room' s whole none left more_counts more_bytes = record {
   limits = s.limits;
   few = omega (arith, left, length_push counts 1);
-  every_byte = length-append bytes (replicate size 0) ∙ ap₂ (λ a b. a + b) s.every_byte (length-replicate {A = ℕ} size 0) ∙ next_row (length counts) ∙ ap (λ n. n * size) (sym (length_push counts 1));
+  every_byte = length-append bytes more ∙ ap₂ (λ a b. a + b) s.every_byte whole ∙ next_row (length counts) ∙ ap (λ n. n * size) (sym (length_push counts 1));
   free_list = IsFreeList-first counts free s.free_list none;
   counts_fit = omega (arith, s.counts_fit);
   bytes_fit = omega (arith, s.bytes_fit);

@@ -1,11 +1,12 @@
 -- What a pool's lists show as blocks: the counts, the bytes, and both after a change of one of the lists.
 use Rattle.std.proofs.Common.{◌≡◌, ℕ, zero, suc, ◌+◌, ◌*◌, ◌-◌, ◌<◌, ◌≤◌, List, [], ◌∷◌, ◌++◌, length, get_or, set, replicate, take, drop, cond, eqb, count_by, refl, ap, sym, ◌∙◌, subst, ⊎_elim, arith, rules, length-append, length-set, length-take, length-drop}
-use Rattle.std.proofs.lemmas.List.{drop-drop, get_or-set_same, drop-append-le, get_or_append_left, get_or_past, get_or_read, length-replicate, same_lists, take-append-le, places}
+use Rattle.std.proofs.lemmas.List.{drop-drop, drop_at, get_or_push, take_all, get_or-set_same, drop-append-le, set-set, take_at, get_or_append_left, get_or_past, get_or_read, length-replicate, same_lists, take-append-le, places}
 use Rattle.std.proofs.lemmas.Grind.{common_steps}
 use Rattle.std.proofs.lemmas.List.Sums.{sum_by-cons}
 use Rattle.std.proofs.lemmas.Bool.{cases_lt, cases_eq, ne_eqb}
 use Rattle.block_pool.specs.Blocks.{Block, Blocks, all_free, free_block, over, size_of, count_at, bytes_at, free_in, with_block, held, released, written, Takes, IsPool, IsWithinLimits}
-use Rattle.block_pool.specs.FreeList.{block_of, blocks_of, counts_of_all}
+use Rattle.block_pool.specs.FreeList.{block_of, blocks_of, counts_of_all, padded}
+use Rattle.block_pool.proofs.BlocksLaws.{count_at-taken, places_of-one_same, size_of-taken}
 
 pub count-block_of : (size count : ℕ) (bytes : List ℕ) → (block_of size count bytes).count ≡ count
 count-block_of size zero bytes = refl
@@ -214,6 +215,25 @@ shown-take size counts bytes p b e l z fits =
           ∙ ap (λ bs. with_block (shown size counts bytes) b (record { count = 1; bytes = bs })) (sym piece);
     })
 
+-- a block that is taken and then written is taken, with these bytes first
+taken-written : (p q : Blocks) (b : ℕ) (new : List ℕ) → Takes p q b → length new ≤ p.block_size → Takes p (written q b 0 new) b × (take (length new) (bytes_at (written q b 0 new) b) ≡ new)
+taken-written p q b new t fits =
+    let bytes : List ℕ = over (bytes_at q b) 0 new in
+    let one : count_at q b ≡ 1 = omega (arith, count_at-taken p q b t b, t.free, places_of-one_same b) in
+    let at : bytes_at (written q b 0 new) b ≡ bytes = ap (λ (x : Block). x.bytes) (get_or-set_same q.blocks b (record { count = count_at q b; bytes = bytes }) free_block (omega (arith, t.within, size_of-taken p q b t))) in
+    let after : written q b 0 new ≡ with_block p b (record { count = 1; bytes = bytes }) =
+    ap (λ n. with_block q b (record { count = n; bytes = bytes })) one
+    ∙ ap (λ (r : Blocks). with_block r b (record { count = 1; bytes = bytes })) t.after
+    ∙ ap (λ (blocks : List Block). record { block_size = p.block_size; blocks = blocks }) (set-set p.blocks b (record { count = 1; bytes = bytes_at q b }) (record { count = 1; bytes = bytes })) in (
+      record {
+        within = t.within;
+        free = t.free;
+        whole = ap (λ (bs : List ℕ). length bs) at ∙ length-over (bytes_at q b) 0 new (omega (arith, t.whole)) ∙ t.whole;
+        after = after ∙ ap (λ (bs : List ℕ). with_block p b (record { count = 1; bytes = bs })) (sym at);
+      },
+      ap (λ (bs : List ℕ). take (length new) bs) at ∙ take_at new (drop (0 + length new) (bytes_at q b)) (length new) refl,
+    )
+
 -- A pool of so many blocks, of which those with counts were taken.
 module _ (size many : ℕ) (counts bytes : List ℕ) (p : Blocks) (e : shown size (counts_of_all many counts) bytes ≡ p) where
   pub taken-count : (b : ℕ) → get_or counts b 0 ≡ count_at p b
@@ -292,15 +312,23 @@ module _ (size many : ℕ) (counts bytes : List ℕ) (p : Blocks) (e : shown siz
       subst (λ counts. Takes p (shown size counts bytes) b) (sym (all-set many counts b 1 l))
       (shown-take size (counts_of_all many counts) bytes p b e within (all-count many counts b ∙ z) (piece-fits size (length counts) b bytes l every))
 
-  -- the first block that was never taken is taken
-  pub taken-first : length bytes ≡ length counts * size → length counts < many → Takes p (shown size (counts_of_all many (counts ++ 1 ∷ [])) (bytes ++ replicate size 0)) (length counts)
-  taken-first every left =
+  -- the first block that was never taken is taken, with these bytes
+  pub taken-first : (more : List ℕ) → length more ≡ size → length bytes ≡ length counts * size → length counts < many → Takes p (shown size (counts_of_all many (counts ++ 1 ∷ [])) (bytes ++ more)) (length counts)
+  taken-first more whole every left =
       let within : length counts < length (counts_of_all many counts) = omega (arith, left, length-all many counts (omega (arith, left))) in
-      let same : shown size (counts_of_all many counts) (bytes ++ replicate size 0) ≡ p =
-      ap (λ (blocks : List Block). record { block_size = size; blocks = blocks }) (blocks_of-more size (many - length counts) counts bytes (replicate size 0) every) ∙ e in
-      let fits : length counts * size + size ≤ length (bytes ++ replicate size 0) = omega (arith, length-append bytes (replicate size 0), length-replicate {A = ℕ} size 0, every) in
-      subst (λ counts'. Takes p (shown size counts' (bytes ++ replicate size 0)) (length counts)) (sym (all-push many counts 1 left))
-      (shown-take size (counts_of_all many counts) (bytes ++ replicate size 0) p (length counts) same within (all-count many counts (length counts) ∙ get_or_past counts (length counts) 0 (omega arith)) fits)
+      let same : shown size (counts_of_all many counts) (bytes ++ more) ≡ p =
+      ap (λ (blocks : List Block). record { block_size = size; blocks = blocks }) (blocks_of-more size (many - length counts) counts bytes more every) ∙ e in
+      let fits : length counts * size + size ≤ length (bytes ++ more) = omega (arith, length-append bytes more, whole, every) in
+      subst (λ counts'. Takes p (shown size counts' (bytes ++ more)) (length counts)) (sym (all-push many counts 1 left))
+      (shown-take size (counts_of_all many counts) (bytes ++ more) p (length counts) same within (all-count many counts (length counts) ∙ get_or_past counts (length counts) 0 (omega arith)) fits)
+
+  -- its bytes are these
+  pub taken-first_bytes : (more : List ℕ) → length more ≡ size → length bytes ≡ length counts * size → length counts < many → bytes_at (shown size (counts_of_all many (counts ++ 1 ∷ [])) (bytes ++ more)) (length counts) ≡ more
+  taken-first_bytes more whole every left =
+      let all : List ℕ = counts_of_all many (counts ++ 1 ∷ []) in
+      let one : get_or all (length counts) 0 ≡ 1 = all-count many (counts ++ 1 ∷ []) (length counts) ∙ get_or_push counts 1 0 (length counts) refl in
+      bytes-blocks_of size all (bytes ++ more) (length counts) (omega arith)
+      ∙ ap (λ bs. take size bs) (drop_at bytes more (length counts * size) every) ∙ take_all size more (omega arith)
 
   -- how many blocks are free
   pub free-all : count_by (λ c. eqb c 0) counts + (many - length counts) ≡ free_in p
@@ -326,5 +354,30 @@ module _ (size many : ℕ) (counts bytes : List ℕ) (p : Blocks) (e : shown siz
             let pos : 0 < get_or (counts_of_all many counts) b 0 = rw (← count-blocks_of size (counts_of_all many counts) bytes b) h in
             ap (λ bs. length bs) (bytes-blocks_of size (counts_of_all many counts) bytes b pos) ∙ length-piece size b bytes (piece-fits size (length counts) b bytes (all-below many counts b pos) every);
       })
+
+-- a block that was taken before and is free is taken again, with these bytes first
+pub taken-again_with : (size many : ℕ) (counts bytes : List ℕ) (p : Blocks) → shown size (counts_of_all many counts) bytes ≡ p → length bytes ≡ length counts * size
+    → (b start : ℕ) (new : List ℕ) → b < length counts → get_or counts b 0 ≡ 0 → start ≡ b * size → length new ≤ p.block_size
+    → Takes p (shown size (counts_of_all many (set counts b 1)) (over bytes start new)) b
+    × (take (length new) (bytes_at (shown size (counts_of_all many (set counts b 1)) (over bytes start new)) b) ≡ new)
+taken-again_with size many counts bytes p e every b start new l z at fits =
+    let q : Blocks = shown size (counts_of_all many (set counts b 1)) bytes in
+    let t : Takes p q b = taken-again size many counts bytes p e every b l z in
+    let one : count_at q b ≡ 1 = omega (arith, count_at-taken p q b t b, t.free, places_of-one_same b) in
+    let long : length bytes ≡ length (set counts b 1) * size = every ∙ ap (λ n. n * size) (sym (length-set counts b 1)) in
+    let size_is : size ≡ p.block_size = ap (λ (r : Blocks). r.block_size) e in
+    let P : Blocks → Type 0 = λ r. Takes p r b × (take (length new) (bytes_at r b) ≡ new) in
+    let place : start ≡ b * size + 0 = omega arith in
+    let after : shown size (counts_of_all many (set counts b 1)) (over bytes start new) ≡ written q b 0 new =
+    ap (λ n. shown size (counts_of_all many (set counts b 1)) (over bytes n new)) place
+    ∙ taken-write size many (set counts b 1) bytes q refl long b 0 new one (omega arith) in
+    subst P (sym after) (taken-written p q b new t fits)
+
+-- as many bytes as a block has, of which these are the first
+pub length-padded : (size : ℕ) (new : List ℕ) → length new ≤ size → length (padded size new) ≡ size
+length-padded size new fits = omega (arith, length-append new (replicate (size - length new) 0), length-replicate {A = ℕ} (size - length new) 0)
+
+pub padded-first : (size : ℕ) (new : List ℕ) → take (length new) (padded size new) ≡ new
+padded-first size new = take_at new (replicate (size - length new) 0) (length new) refl
 
 pub ruleset stored = (length-blocks_of, count-blocks_of, free-blocks_of)

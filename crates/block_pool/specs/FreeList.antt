@@ -8,6 +8,10 @@ abbrev pub block_of : ℕ → ℕ → List ℕ → Block
 block_of size zero bytes = free_block
 block_of size (suc n) bytes = record { count = suc n; bytes = take size bytes }
 
+-- the bytes of a block that is taken for the first time: these, and zeros behind them
+abbrev pub padded : ℕ → List ℕ → List ℕ
+padded size bytes = bytes ++ replicate (size - length bytes) 0
+
 -- the blocks of these counts, their bytes cut from the list in turn
 abbrev pub blocks_of : ℕ → List ℕ → List ℕ → List Block
 blocks_of size [] bytes = []

@@ -1,5 +1,6 @@
-ghost use Rattle.std.specs.Prelude.{◌≡◌, ◌+◌, ◌-◌, ◌*◌, ◌^◌, ◌<◌, ◌≤◌, ◌↔◌, ◌++◌, length, IfSome, IfNone, IfOk, IsTrue, replicate, vec_len, vec_capacity};
+ghost use Rattle.std.specs.Prelude.{◌≡◌, ◌+◌, ◌-◌, ◌*◌, ◌^◌, ◌<◌, ◌≤◌, ◌↔◌, ◌++◌, length, IfSome, IfNone, IfOk, IsTrue, take, vec_len, vec_capacity};
 ghost use Rattle.block_pool.specs.Blocks.{IsPool, IsWithinLimits, Takes, size_of, count_at, bytes_at, free_in, all_free, held, over, released, written};
+ghost use Rattle.block_pool.specs.FreeList.{padded};
 
 use crate::block_id::BlockId;
 use std::alloc::{AllocError, Global};
@@ -116,9 +117,23 @@ impl Pool {
         ensures none { IfNone result (free_in self.old ≡ 0) }
         ensures unchanged { IfNone result (self.new ≡ self.old) }
     {
+        self.take_with(b"")
+    }
+
+    /// Takes a free block as [`Pool::take`] does. Its first bytes are these, at most as many as a block has, and the others
+    /// are not promised. The memory of a block that is taken for the first time is not cleared before they are written.
+    pub fn take_with(&mut self, bytes: &[u8]) -> Option<BlockId>
+        requires { length bytes.now ≤ self.old.block_size }
+        ensures some { IfSome result (λ b. Takes self.old self.new b) }
+        ensures first { IfSome result (λ b. take (length bytes.now) (bytes_at self.new b) ≡ bytes.now) }
+        ensures none { IfNone result (free_in self.old ≡ 0) }
+        ensures unchanged { IfNone result (self.new ≡ self.old) }
+    {
+        let size = self.block_bytes as usize;
         if let Some(block) = self.free.pop() {
             let place = block.number() as usize;
             self.counts[place] = 1;
+            write_over(&mut self.bytes, place * size, bytes);
             return Some(block);
         }
         let taken = self.counts.len();
@@ -126,7 +141,7 @@ impl Pool {
             return None;
         }
         self.counts.push_reserved(1);
-        put_zeros(&mut self.bytes, self.block_bytes as usize);
+        put_padded(&mut self.bytes, bytes, size);
         Some(BlockId::new(taken as u32))
     }
 
@@ -178,14 +193,17 @@ impl Pool {
     }
 }
 
-// Puts so many zeros behind bytes, where there is room for them.
-fn put_zeros(bytes: &mut Vec<u8>, count: usize)
-    requires { vec_len bytes.old + count ≤ vec_capacity bytes.old }
-    ensures items { bytes.new.items ≡ bytes.old.items ++ replicate count 0 }
-    ensures room { vec_capacity bytes.old ≤ vec_capacity bytes.new }
+// Puts bytes behind others, and zeros behind these up to `size` in all, for which there is room.
+fn put_padded(all: &mut Vec<u8>, bytes: &[u8], size: usize)
+    requires fits { length bytes.now ≤ size }
+    requires room { vec_len all.old + size ≤ vec_capacity all.old }
+    ensures items { all.new.items ≡ all.old.items ++ padded size bytes.now }
+    ensures room { vec_capacity all.old ≤ vec_capacity all.new }
 {
-    let len = bytes.len() + count;
-    let put = bytes.resize(len, 0);
+    let end = all.len() + size;
+    let copied = all.extend_from_slice(bytes);
+    prove!(copied.is_ok());
+    let put = all.resize(end, 0);
     prove!(put.is_ok());
 }
 
