@@ -1,11 +1,11 @@
 -- A body is read block by block.
-use Rattle.std.proofs.Common.{◌≡◌, ℕ, zero, suc, ◌+◌, ◌-◌, ◌*◌, ◌<◌, ◌≤◌, List, [], ◌∷◌, ◌++◌, length, get_or, take, drop, min, ap, ap₂, sym, arith, rules, append_assoc, append-nil, ◌∙◌}
+use Rattle.std.proofs.Common.{◌≡◌, ℕ, zero, suc, ◌+◌, ◌-◌, ◌*◌, ◌<◌, ◌≤◌, List, [], ◌∷◌, ◌++◌, length, get_or, take, drop, ap, ap₂, sym, arith, rules, append_assoc, length-take, length-drop, ◌∙◌}
 use Rattle.std.proofs.Math.Nat.{suc-mul}
 use Rattle.std.proofs.Math.Seq.{drop-append-add}
-use Rattle.std.proofs.lemmas.List.{drop-drop, drop-take, same_lists, places, take_more, get_or_read}
+use Rattle.std.proofs.lemmas.List.{drop-drop, drop-take, same_lists, places, get_or_read}
 use Rattle.std.proofs.lemmas.List.Concat.{flat_map-cons}
 use Rattle.block_pool.specs.Blocks.{Blocks, count_at, bytes_at, bytes_of}
-use Rattle.block_pool.proofs.BlocksLaws.{bytes_of-append, places_of-at}
+use Rattle.block_pool.proofs.BlocksLaws.{places_of-at}
 use Rattle.block_bodies.specs.Bodies.{Chain, IsHeld, content_of}
 
 -- a block that is read from a list whose blocks are held
@@ -13,18 +13,6 @@ pub held-at : (p : Blocks) (list shown : List ℕ) (i b : ℕ) → IsHeld p list
 held-at p list shown i b held same l is =
     let place = rw (← get_or_read shown i b l is 0) at (places_of-at i shown l) in
     omega (arith, held.each b, rw same at place)
-
--- the front of two texts, the second cut to what is left of the front
-take-both : (front back : List ℕ) (len : ℕ) → take len front ++ take (min (len - length (take len front)) (length back)) back ≡ take len (front ++ back)
-take-both front back len = same_lists _ _ (search (rules, places)) (λ i d l. grind (arith, places))
-
--- what was read so far, onto what stood before, and one block more
-pub read-more : (p : Blocks) (list before read : List ℕ) (len left i n : ℕ) → i < length list → read ≡ before ++ take len (bytes_of p (take i list)) → left + length (take len (bytes_of p (take i list))) ≡ len → n ≡ min left (length (bytes_at p (get_or list i 0)))
-    → read ++ take n (bytes_at p (get_or list i 0)) ≡ before ++ take len (bytes_of p (take (i + 1) list))
-read-more p list before read len left i n l e rest m =
-    let rest_is : left ≡ len - length (take len (bytes_of p (take i list))) = omega arith in
-    rw (m, rest_is, e, take_more list i 0 l, bytes_of-append p (take i list) (get_or list i 0 ∷ []), flat_map-cons (λ c. bytes_at p c) (get_or list i 0) [], append-nil)
-    (append_assoc before _ _ ∙ ap (λ bs. before ++ bs) (take-both (bytes_of p (take i list)) (bytes_at p (get_or list i 0)) len))
 
 -- ---- a body is read where it lies
 
@@ -55,3 +43,16 @@ from-offset p x offset size k w m whole l at within fits =
     ap (λ (n : ℕ). drop offset (take n (bytes_of p x.blocks))) len ∙ drop-take offset (x.len - offset) (bytes_of p x.blocks)
     ∙ ap (take (x.len - offset)) (ap (λ (n : ℕ). drop n (bytes_of p x.blocks)) at ∙ sym (drop-drop w (k * size) (bytes_of p x.blocks)) ∙ ap (drop w) found.1) in
     front-of b found.0 w m (x.len - offset) (omega (arith, within, whole k l)) (omega (arith, fits)) ∙ ap (take (length (take m (drop w b)))) (sym rest)
+
+-- ---- a body is read onto what stood before
+
+-- what was read so far, and some more of what lies behind it
+pub read-more : (content before read lent : List ℕ) (offset done n : ℕ) → read ≡ before ++ take done (drop offset content) → lent ≡ take (length lent) (drop (offset + done) content) → n ≤ length lent → 0 < n
+    → read ++ take n lent ≡ before ++ take (done + n) (drop offset content)
+read-more content before read lent offset done n e is less some =
+    let fits : offset + done + length lent ≤ length content = omega (arith, ap (λ (bs : List ℕ). length bs) is, length-take (length lent) (drop (offset + done) content), length-drop (offset + done) content) in
+    ap₂ (λ (a b : List ℕ). a ++ b) e (ap (take n) is) ∙ append_assoc before _ _
+    ∙ ap (λ (bs : List ℕ). before ++ bs) (add (length lent) less fits)
+  where
+    add : (l : ℕ) → n ≤ l → offset + done + l ≤ length content → take done (drop offset content) ++ take n (take l (drop (offset + done) content)) ≡ take (done + n) (drop offset content)
+    add l few room = same_lists _ _ (search (rules, places)) (λ i d b. grind (arith, places))

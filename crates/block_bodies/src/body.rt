@@ -275,27 +275,29 @@ impl Body {
         ensures content { IfOk result (λ v. v.items ≡ content_of pool.now self.now) }
         ensures empty { self.now.len ≡ 0 → IsOk result }
     {
-        let mut bytes = Vec::with_capacity(alloc, self.len as usize)?;
-        self.read_onto(pool, &mut bytes);
+        let len = self.len as usize;
+        let mut bytes = Vec::with_capacity(alloc, len)?;
+        self.read_onto(pool, 0, len, &mut bytes);
         Ok(bytes)
     }
 
-    /// Reads the body's bytes onto the end of `bytes`, which has room for them: so many bodies can be read
-    /// onto a vector whose memory was taken once. It cannot fail and takes no memory.
-    pub fn read_onto(&self, pool: &Pool, bytes: &mut Vec<u8>)
+    /// Reads the body's bytes from an offset on onto the end of `bytes`, as many as `count`, for which it has room, or as there
+    /// are: so many bodies can be read onto a vector whose memory was taken once. It cannot fail and takes no memory.
+    pub fn read_onto(&self, pool: &Pool, offset: u64, count: usize, bytes: &mut Vec<u8>)
         requires body { IsBodyOf pool.now self.now }
-        requires room { vec_len bytes.old + self.now.len ≤ vec_capacity bytes.old }
-        ensures content { bytes.new.items ≡ bytes.old.items ++ content_of pool.now self.now }
-        ensures len { vec_len bytes.new ≡ vec_len bytes.old + self.now.len }
+        requires room { vec_len bytes.old + count ≤ vec_capacity bytes.old }
+        ensures content { bytes.new.items ≡ bytes.old.items ++ take count (drop offset (content_of pool.now self.now)) }
         ensures room_kept { vec_capacity bytes.old ≤ vec_capacity bytes.new }
     {
-        let size = pool.block_size() as usize;
-        let mut left = self.len as usize;
-        for block in &self.blocks {
-            let n = left.min(size);
-            let copied = bytes.extend_from_slice(&pool.bytes(*block)[..n]);
+        let rest = self.len.saturating_sub(offset);
+        let all = rest.min(count as u64) as usize;
+        let mut done = 0;
+        while done < all {
+            let lent = self.bytes_from(pool, offset + done as u64);
+            let n = lent.len().min(all - done);
+            let copied = bytes.extend_from_slice(&lent[..n]);
             prove!(copied.is_ok());
-            left -= n;
+            done += n;
         }
     }
 

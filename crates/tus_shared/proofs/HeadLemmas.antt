@@ -1,10 +1,13 @@
 -- A HEAD as a turn of a desk: it changes nothing.
-use Rattle.std.proofs.Common.{◌≡◌, ℕ, ◌+◌, Bool, true, false, List, Option, Some, None, IfSome, IfNone, Result, Ok, Err, IsErr, inl, length, refl, sym, ap, ap₂, subst, ◌∙◌}
+use Rattle.std.proofs.Common.{◌≡◌, ℕ, ◌+◌, Bool, true, false, List, map, Option, Some, None, IfSome, IfNone, Result, Ok, Err, IsErr, inl, length, refl, sym, ap, ap₂, subst, ◌∙◌}
 use Rattle.std.specs.Prelude.{◌⊎◌}
 use mathlib.Core.List.{IsPrefix}
+use Rattle.upload_book.specs.Begun.{IsBegun}
 use Rattle.upload_book.specs.declared.head_row.HeadRow.{HeadRow}
 use Rattle.upload_book.specs.declared.head_row.Name.{Name}
+use Rattle.upload_book.specs.Events.{ChangeEvent, book_after_all}
 use Rattle.upload_book.specs.Operation.{Operation}
+use Rattle.upload_book.specs.PlainBook.{PlainBook, opening_book}
 use Rattle.upload_book.specs.declared.progress.Progress.{Progress}
 use Rattle.upload_book.specs.declared.refusal.Refusal.{Refusal}
 use Rattle.upload_book.specs.Settings.{AreSound, Settings}
@@ -23,7 +26,7 @@ use Rattle.tus_steps.specs.Request.{Request}
 use Rattle.tus_steps.specs.Step.{IsStep}
 use Rattle.head_board.specs.Board.{ReadsHead, ReadsProgress}
 use Rattle.head_board.specs.Event.{Event}
-use Rattle.head_board.specs.Events.{HaveHappened, book_at}
+use Rattle.head_board.specs.Events.{HaveHappened, book_at, change_event}
 use Rattle.tus_shared.specs.Answers.{Answers, AnswersTurn, IsRefusedHead, IsUploadHead, MissesBoard, OnlyLooks, OnlySeesMore}
 use Rattle.tus_shared.specs.Desk.{Desk, Moves, queueing}
 use Rattle.tus_shared.specs.Journal.{Queueing, journal_len}
@@ -32,6 +35,8 @@ use Rattle.head_board.proofs.LawfulLemmas.{books_stay_lawful}
 use Rattle.tus_steps.proofs.AskedLemmas.{asks-in, look-step, refused-step}
 use Rattle.head_board.proofs.SettingsLemmas.{at-settings}
 use Rattle.tus_shared.proofs.LogLaws.{prefix-on, prefix-self}
+use Rattle.tus_shared.proofs.QueueLemmas.{after-more}
+use Rattle.upload_book.proofs.BegunLemmas.{begun-stay}
 
 -- a request that asks for no change adds nothing to what happened
 adds-nothing : (q : Queueing) (s : Settings) (events : List Event) (desk : ℕ) (r : Request) (now : ℕ) (reply : Reply) → change_found s r ≡ None → AddsChange q s events desk r now reply events
@@ -63,15 +68,19 @@ missed-looks old new misses = record {
   missed = λ before. ap (λ (d : Desk). d.missed) misses;
 }
 
+-- a desk that only sees more looks
+pub sees-looks : (old new : Desk) → OnlySeesMore old new → IsPrefix old.seen new.seen → OnlyLooks old new
+sees-looks old new sees begins = record {
+  alone = sees ∙ ap (λ (missed : Bool). let desk : Desk = record old { seen = new.seen; missed = missed } in desk) (sym (ap (λ (d : Desk). d.missed) sees));
+  begins = begins;
+  missed = λ before. ap (λ (d : Desk). d.missed) sees ∙ before;
+}
+
 -- as did one that read how far an upload is there, or missed it
 pub looks-at : (s : Settings) (name : Name) (now : ℕ) (progress : Option (Result Progress Refusal)) (old new : Desk)
     → IfSome progress (λ (p : Result Progress Refusal). ReadsProgress s old.seen new.seen name now p)
     → IfSome progress (λ (p : Result Progress Refusal). OnlySeesMore old new) → IfNone progress (MissesBoard old new) → OnlyLooks old new
-looks-at s name now (Some progress) old new reads sees misses = record {
-  alone = sees ∙ ap (λ (missed : Bool). let desk : Desk = record old { seen = new.seen; missed = missed } in desk) (sym (ap (λ (d : Desk). d.missed) sees));
-  begins = reads.begins;
-  missed = λ before. ap (λ (d : Desk). d.missed) sees ∙ before;
-}
+looks-at s name now (Some progress) old new reads sees misses = sees-looks old new sees reads.begins
 looks-at s name now None old new reads sees misses = missed-looks old new misses
 
 -- what the board tells of an upload is the answer to a HEAD of it
@@ -164,3 +173,18 @@ is-refused-head s r why is head = record { head = head; refused = subst IsErr (s
 -- a HEAD of an upload asks for what stands of it
 pub head-asks : (s : Settings) (r : Request) (asks : Asked) → asks ≡ asked_in s r → (head : IsUploadHead s r) → asks ≡ asked.Look head.name
 head-asks s r asks is head = is ∙ rw (no-options r.method head.head, head.looks) refl
+
+-- bytes of a GET that were begun stay so as more is seen
+pub begun-later : (s : Settings) (name : Name) (bytes : List ℕ) (events later : List Event) → IsPrefix events later → IsBegun (book_at s events) name bytes → IsBegun (book_at s later) name bytes
+begun-later s name bytes events later prefix begun =
+    let after : book_at s later ≡ book_after_all (book_at s events) (map {A = Event} {B = ChangeEvent} change_event prefix.0) =
+    ap (book_at s) (sym prefix.1) ∙ after-more (opening_book s) events prefix.0 in
+    subst (λ (b : PlainBook). IsBegun b name bytes) (sym after) (begun-stay (book_at s events) (map {A = Event} {B = ChangeEvent} change_event prefix.0) name bytes begun)
+
+-- and so does one that looks again
+pub looks-again : (old between new : Desk) → OnlyLooks old between → OnlyLooks between new → OnlyLooks old new
+looks-again old between new first then = record {
+  alone = then.alone ∙ ap (λ (d : Desk). let desk : Desk = record d { seen = new.seen; missed = new.missed } in desk) first.alone;
+  begins = prefix-on old.seen between.seen new.seen first.begins then.begins;
+  missed = λ was. then.missed (first.missed was);
+}

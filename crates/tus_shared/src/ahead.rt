@@ -1,5 +1,5 @@
 //! What a desk does of a request before it takes the lock.
-ghost use Rattle.std.specs.Prelude.{◌≡◌, IfSome};
+ghost use Rattle.std.specs.Prelude.{◌≡◌, [], IfSome};
 ghost use Rattle.tus_shared.specs.Answers.{OnlyLooks};
 ghost use Rattle.tus_shared.specs.Journal.{change_frame};
 ghost use Rattle.tus_steps.specs.Asked.{change_in as change_asked};
@@ -18,6 +18,7 @@ impl<C: Charges, R: Ledger, M: Ledger> Desk<C, R, M> {
     /// too little. What is asked for stays what it is. It takes no lock, copies no text, and waits for nobody.
     pub(crate) fn work_ahead(&mut self, asked: &mut Asked, now: Moment) -> Vec<u8>
         ensures asked { asked.new ≡ asked.old }
+        ensures empty { result.items ≡ [] }
         ensures desk { OnlyLooks self.old self.new }
     {
         match asked {
@@ -55,7 +56,8 @@ impl<C: Charges, R: Ledger, M: Ledger> Desk<C, R, M> {
 
     // Memory for the bytes of an upload that is complete, as far as the heads tell and there is some.
     fn content_room(&mut self, name: &Name, now: Moment) -> Vec<u8>
-        ensures { OnlyLooks self.old self.new }
+        ensures empty { result.items ≡ [] }
+        ensures desk { OnlyLooks self.old self.new }
     {
         let len = match self.read_progress(name, now) {
             Some(Ok(progress)) if progress.is_complete() => progress.offset,

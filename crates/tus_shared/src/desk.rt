@@ -3,10 +3,13 @@ ghost use Rattle.tus_steps.specs.Asked.{change_in as change_asked};
 ghost use Rattle.tus_steps.specs.Changing.{IsFound};
 ghost use Rattle.tus_steps.specs.declared.asked.Asked.TheVariants as asks;
 ghost use Rattle.tus_steps.specs.PlacedReply.{reply_in};
+ghost use Rattle.head_board.specs.Events.{book_at};
 ghost use Rattle.head_board.specs.Board.{ReadsHead, ReadsProgress, ReadsTotals, SeesNoneExpired, row_read};
 ghost use Rattle.tus_shared.specs.Answers.{Answers, AnswersBatch, AnswersTurn, MissesBoard, OnlySeesMore, SeesHead, Sweeps};
 ghost use Rattle.tus_shared.specs.Desk.{next_count};
 ghost use Rattle.tus_shared.specs.Journal.{change_frame};
+ghost use Rattle.upload_book.specs.Begun.{IsBegun};
+ghost use Rattle.upload_book.specs.declared.head_row.Name.{Name};
 ghost use Rattle.upload_book.specs.declared.refusal.Refusal.TheVariants.{Board, Unknown};
 
 use crate::charges::Charges;
@@ -74,7 +77,8 @@ impl<C: Charges, R: Ledger, M: Ledger> Desk<C, R, M> {
     /// Takes the lock for the step of this request at this moment ([`crate::Store::step`]), and gives its reply: the
     /// plain book's, after events that begin with what the desk has seen. After it the desk has seen all of them, and its
     /// own change, which is the next event. Where changes are journalled, it may be refused as Memory since there is no room
-    /// for its record; then nothing happens. The bytes of a GET are a copy. It may wait for other desks.
+    /// for its record; then nothing happens. The bytes of a GET are a copy, for which the lock is got anew after each 256 KiB.
+    /// It may wait for other desks.
     pub fn call<W: Wait, B: Wait + Drop>(
         &mut self,
         rt: &W,
@@ -285,9 +289,10 @@ impl<C: Charges, R: Ledger, M: Ledger> Desk<C, R, M> {
         ensures counted { self.new.steps ≡ next_count self.old.steps }
     {
         let room = self.work_ahead(&mut asked, now);
+        let begun = self.read_ahead(rt, shared, &asked, now, room);
         let frame = self.frame_ahead(&asked, now);
         self.step_locked(
-            rt, shared, request, asked, frame, room, now, turn, gate, reply,
+            rt, shared, request, asked, frame, begun, now, turn, gate, reply,
         );
     }
 
@@ -299,7 +304,7 @@ impl<C: Charges, R: Ledger, M: Ledger> Desk<C, R, M> {
         request: &Request,
         asked: Asked,
         frame: Option<Vec<u8>>,
-        room: Vec<u8>,
+        begun: Vec<u8>,
         now: Moment,
         turn: usize,
         gate: &G,
@@ -307,13 +312,14 @@ impl<C: Charges, R: Ledger, M: Ledger> Desk<C, R, M> {
     )
         requires found { IsFound C.settings request.now asked }
         requires frame { IfSome frame (λ f. IfSome (change_asked asked) (λ found. f.items ≡ change_frame C.journal found.change now)) }
+        requires begun { (name : Name) → asked ≡ asks.Content name → IsBegun (book_at C.settings self.old.seen) name begun.items }
         ensures answers { Answers C.settings request.now now (reply_in reply.new) self.old self.new }
         ensures missed { self.new.missed ≡ self.old.missed }
         ensures counted { self.new.steps ≡ next_count self.old.steps }
     {
         let mut store = shared.store.lock(rt);
         gate.pass(self.number, turn, Stop::Locked);
-        store.step(self, request, asked, frame, room, now, reply);
+        store.step(self, request, asked, frame, begun, now, reply);
     }
 
     // Answers the turns of a batch, one after another, and gives their replies in a list that has room for

@@ -15,6 +15,7 @@ mod making;
 mod open_fault;
 mod opening;
 mod queue;
+mod read_ahead;
 mod shared;
 mod store;
 mod store_ledger;

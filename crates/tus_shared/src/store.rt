@@ -13,6 +13,7 @@ ghost use Rattle.tus_shared.specs.Headline.{Headline};
 ghost use Rattle.tus_shared.specs.Journal.{AreTaken, change_frame, held_bytes, spare_of};
 ghost use Rattle.tus_shared.specs.Steps.{AddsChange, IsDone, IsDoneAgain, IsStepAt, IsSweepAt};
 ghost use Rattle.upload_book.specs.Change.{CanBeMade};
+ghost use Rattle.upload_book.specs.Begun.{IsBegun};
 ghost use Rattle.upload_book.specs.declared.change.Change.TheVariants as changes;
 ghost use Rattle.upload_book.specs.declared.head_row.Name.{Name};
 ghost use Rattle.upload_book.specs.Lawful.{IsLawful};
@@ -81,7 +82,7 @@ impl<C: Charges, R: Ledger, M: Ledger, B: Wait + Drop> Store<C, R, M, B> {
     /// Answers a request at a desk and applies it to the book, as the plain book does at this moment
     /// ([`tus_steps::answer`]). What it asks for was found before the lock was taken ([`tus_steps::asked_of`], under the
     /// settings of the desk), and so was the room into which the bytes of a GET are copied: memory lacks for these only where
-    /// it is too small. A change that is accepted is the next event, made at this desk. The desk has seen all events after
+    /// it is too small. Their first ones may stand there already. A change that is accepted is the next event, made at this desk. The desk has seen all events after
     /// it, and its shares rise by what the request charges and releases, and by that event. The step is counted at the desk.
     /// The shares of other desks stay, since no other desk is lent. The reply is put to its place.
     ///
@@ -96,12 +97,13 @@ impl<C: Charges, R: Ledger, M: Ledger, B: Wait + Drop> Store<C, R, M, B> {
         request: &Request,
         asked: Asked,
         frame: Option<Vec<u8>>,
-        room: Vec<u8>,
+        begun: Vec<u8>,
         now: Moment,
         reply: &mut PlacedReply,
     )
         requires found { IsFound C.settings request.now asked }
         requires frame { IfSome frame (λ f. IfSome (change_asked asked) (λ found. f.items ≡ change_frame C.journal found.change now)) }
+        requires begun { (name : Name) → asked ≡ asks.Content name → IsBegun (book_at C.settings desk.old.seen) name begun.items }
         ensures happened { HaveHappened C.settings self.old }
         ensures stays_happened { HaveHappened C.settings self.new }
         ensures lawful { IsLawful (book_at C.settings self.old) }
@@ -115,7 +117,7 @@ impl<C: Charges, R: Ledger, M: Ledger, B: Wait + Drop> Store<C, R, M, B> {
         ensures counted { desk.new.steps ≡ next_count desk.old.steps }
         ensures missed { desk.new.missed ≡ desk.old.missed }
         ensures room { (name : Name) → asked.entry ≡ asks.Content name
-            → IsContentReply (book_at C.settings self.old) request.now now name (vec_capacity room) (reply_in reply.new) }
+            → IsContentReply (book_at C.settings self.old) request.now now name (vec_capacity begun) (reply_in reply.new) }
     {
         self.begin(desk);
         match asked {
@@ -124,7 +126,7 @@ impl<C: Charges, R: Ledger, M: Ledger, B: Wait + Drop> Store<C, R, M, B> {
                 let outcome = self.make(desk, asked.change, frame, now);
                 reply.put_change(request, offset, outcome);
             }
-            asked => answer_asked(self.headline(), request, asked, now, room, reply),
+            asked => answer_asked(self.headline(), request, asked, now, begun, reply),
         }
     }
 

@@ -4,6 +4,7 @@ ghost use Rattle.tus_steps.specs.Changing.{IsFound};
 ghost use Rattle.tus_steps.specs.declared.asked.Asked.TheVariants as asks;
 ghost use Rattle.tus_steps.specs.PlacedReply.{reply_in};
 ghost use Rattle.tus_steps.specs.Step.{IsContentReply, IsStep};
+ghost use Rattle.upload_book.specs.Begun.{IsBegun};
 ghost use Rattle.upload_book.specs.Book.{plain_of};
 ghost use Rattle.upload_book.specs.declared.head_row.Name.{Name};
 
@@ -67,21 +68,22 @@ where
 
 /// Answers a request that asks for no change, by what [`asked_of`] found of it under the book's settings: the reply is
 /// the plain book's at this moment, and the book stays. A HEAD and a GET go over the uploads of their tenant once. The
-/// bytes of a GET are copied once, into `room`, whatever that had before. It is refused as Memory only where they are
-/// more than the capacity of `room`, and get no more memory; nothing else takes memory.
+/// bytes of a GET are copied once, behind the first ones of them, which `begun` has. It is refused as Memory only where they are
+/// more than the capacity of `begun`, and get no more memory; nothing else takes memory.
 pub fn answer_asked(
     book: &Book,
     request: &Request,
     asked: Asked,
     now: Moment,
-    room: Vec<u8>,
+    begun: Vec<u8>,
     reply: &mut PlacedReply,
 )
     requires found { asked ≡ asked_in (plain_of book.now).settings request.now }
+    requires begun { (name : Name) → asked ≡ asks.Content name → IsBegun (plain_of book.now) name begun.items }
     requires stays { change_in asked ≡ None }
     ensures step { IsStep (plain_of book.now) request.now now (reply_in reply.new) (plain_of book.now) }
     ensures room { (name : Name) → asked.entry ≡ asks.Content name
-        → IsContentReply (plain_of book.now) request.now now name (vec_capacity room) (reply_in reply.new) }
+        → IsContentReply (plain_of book.now) request.now now name (vec_capacity begun) (reply_in reply.new) }
 {
     match asked {
         Asked::Options => {
@@ -90,7 +92,7 @@ pub fn answer_asked(
         }
         Asked::Refused(refusal) => reply.refuse(request, refusal, None),
         Asked::Look(name) => reply.put_head(book.look_lent(&name, now)),
-        Asked::Content(name) => reply.put_content(request, book.content(&name, now, room)),
+        Asked::Content(name) => reply.put_content(request, book.content(&name, now, begun)),
         Asked::Change(_) => unreachable!("a change is made, and not only answered"),
     }
 }

@@ -1,5 +1,5 @@
 -- The bytes of a complete upload stay.
-use Rattle.std.proofs.Common.{◌≡◌, ℕ, ◌≤◌, Bool, false, cond, eqb, ltb, not, List, [], ◌∷◌, length, Option, Some, None, Result, Ok, Err, refl, inl, inr, ap, sym, subst, ◌∙◌, arith, append-nil}
+use Rattle.std.proofs.Common.{◌≡◌, ℕ, ◌≤◌, false, cond, eqb, ltb, not, List, [], ◌∷◌, length, Option, Some, None, Result, Ok, Err, refl, inl, inr, ap, sym, subst, ◌∙◌, arith, append-nil}
 use Rattle.std.specs.List.{Contains}
 use Rattle.std.proofs.lemmas.Bool.{ltb-false}
 use Rattle.std.proofs.lemmas.Bool.Decides.{eqb_tells, nat_tests}
@@ -11,7 +11,8 @@ use Rattle.upload_book.specs.Append.{append_refusal, part_after_append, upload_w
 use Rattle.upload_book.specs.Change.{book_after_change}
 use Rattle.upload_book.specs.Chunk.{Chunk}
 use Rattle.upload_book.specs.Concat.{concat_refusal, final_upload, part_after_concat, parts_found}
-use Rattle.upload_book.specs.laws.ContentsStay.{BookHasOnly, ContentsStay, HasOnly}
+use Rattle.upload_book.specs.Begun.{BookHasOnly, HasOnly}
+use Rattle.upload_book.specs.laws.ContentsStay.{ContentsStay}
 use Rattle.upload_book.specs.Create.{created_upload, creation_refusal, part_after_create}
 use Rattle.upload_book.specs.declared.board_line.Account.{Account}
 use Rattle.upload_book.specs.declared.change.Change.{Change}
@@ -19,7 +20,7 @@ use Rattle.upload_book.specs.declared.change.Change.TheVariants.{Create, Append,
 use Rattle.upload_book.specs.declared.head_row.Name.{Name}
 use Rattle.upload_book.specs.declared.refusal.Refusal.{Refusal}
 use Rattle.upload_book.specs.declared.settings.Numbers.{Numbers}
-use Rattle.upload_book.specs.Events.{ChangeEvent, book_after_event}
+use Rattle.upload_book.specs.Events.{book_after_event}
 use Rattle.upload_book.specs.Expiry.{has_expired}
 use Rattle.upload_book.specs.FirstChunk.{FirstChunk}
 use Rattle.upload_book.specs.NewFinal.{NewFinal}

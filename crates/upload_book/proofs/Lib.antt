@@ -10,4 +10,5 @@ pub mod PiecesLemmas
 pub mod PiecesOfBookLemmas
 pub mod PiecedCreationLemmas
 pub mod PiecedCreationOfBookLemmas
+pub mod BegunLemmas
 pub mod ContentsStayLemmas

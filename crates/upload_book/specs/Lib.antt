@@ -1,5 +1,6 @@
 pub mod Account
 pub mod Append
+pub mod Begun
 pub mod BlockStore
 pub mod BlockBook
 pub mod Book

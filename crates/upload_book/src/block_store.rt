@@ -1,4 +1,4 @@
-ghost use Rattle.std.specs.Prelude.{◌≡◌, ◌≢◌, ℕ, ◌+◌, ◌-◌, ◌<◌, ◌≤◌, ◌^◌, ◌==◌, List, [], length, map, min, option_map, position, set, slice_get, take, vec_capacity, All, None, Some, IfOk, IfErr, IfSome, IfNone, IsOk, IsTrue, OnOk, OnErr};
+ghost use Rattle.std.specs.Prelude.{◌≡◌, ◌≢◌, ℕ, ◌++◌, drop, vec_len, ◌+◌, ◌-◌, ◌<◌, ◌≤◌, ◌^◌, ◌==◌, List, [], length, map, min, option_map, position, set, slice_get, take, vec_capacity, All, None, Some, IfOk, IfErr, IfSome, IfNone, IsOk, IsTrue, OnOk, OnErr};
 ghost use Rattle.std.specs.List.{list_all, range_with_len, sum_by};
 ghost use Rattle.block_pool.specs.Blocks.{IsWithinLimits, all_free, free_in, size_of};
 ghost use Rattle.upload_book.specs.Account.{blocks_between};
@@ -253,20 +253,42 @@ impl BlockStore {
         self.stored_tenants[tenant].uploads[place].progress()
     }
 
-    /// The bytes of the upload at a place, copied once, into this vector, whatever it had before. The error is that
-    /// it has too little room for them and got no more.
+    /// The bytes of the upload at a place, whose first ones are there already; the others are copied once behind them. The error
+    /// is that the vector has too little room for all and got no more.
     pub(crate) fn read(
         &self,
         tenant: usize,
         place: usize,
-        room: Vec<u8>,
+        begun: Vec<u8>,
     ) -> Result<Vec<u8>, AllocError>
         requires tenant { tenant < length self.now.stored_tenants }
         requires place { place < length (stored_tenant_at self.now tenant).uploads }
+        requires begun { begun.items ≡ take (length begun.items) (content_of (upload_at self.now tenant place)) }
         ensures bytes { IfOk result (λ v. v.items ≡ content_of (upload_at self.now tenant place)) }
-        ensures lacking { OnErr result (vec_capacity room < length (content_of (upload_at self.now tenant place))) }
+        ensures lacking { OnErr result (vec_capacity begun < length (content_of (upload_at self.now tenant place))) }
     {
-        self.stored_tenants[tenant].uploads[place].read(&self.pool, room)
+        self.stored_tenants[tenant].uploads[place].read(&self.pool, begun)
+    }
+
+    /// Bytes of the upload at a place from an offset on, copied once onto the end of `bytes`: as many as `count`, for which it
+    /// has room, or as there are.
+    pub(crate) fn read_onto(
+        &self,
+        tenant: usize,
+        place: usize,
+        offset: u64,
+        count: usize,
+        bytes: &mut Vec<u8>,
+    )
+        requires tenant { tenant < length self.now.stored_tenants }
+        requires place { place < length (stored_tenant_at self.now tenant).uploads }
+        requires room { vec_len bytes.old + count ≤ vec_capacity bytes.old }
+        ensures items { bytes.new.items ≡ bytes.old.items
+            ++ take count (drop offset (content_of (upload_at self.now tenant place))) }
+        ensures room_kept { vec_capacity bytes.old ≤ vec_capacity bytes.new }
+    {
+        let upload = &self.stored_tenants[tenant].uploads[place];
+        upload.read_onto(&self.pool, offset, count, bytes);
     }
 
     /// A body of no bytes with room for so many, which a new upload may have. The error is that there was no memory

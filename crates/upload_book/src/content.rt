@@ -1,4 +1,5 @@
-ghost use Rattle.std.specs.Prelude.{◌≡◌, [], Err, vec_capacity};
+ghost use Rattle.std.specs.Prelude.{◌≡◌, ◌-◌, ◌≤◌, [], Err, min, vec_capacity, vec_len};
+ghost use Rattle.upload_book.specs.Begun.{IsBegun, with_more};
 ghost use Rattle.upload_book.specs.Book.{plain_of};
 ghost use Rattle.upload_book.specs.Content.{LacksRoom, content_answer};
 ghost use Rattle.upload_book.specs.PlainBook.{answer_of};
@@ -48,18 +49,19 @@ impl Content {
 }
 
 impl Book {
-    /// What a GET of an upload gives at `now`: its bytes, which are copied once, into this vector, whatever it had
-    /// before. Memory is taken only where its capacity is less than they are; whoever reserved it before
+    /// What a GET of an upload gives at `now`: its bytes. Those that `begun` has are its first ones, and the others are copied
+    /// once behind them. Memory is taken only where its capacity is less than all of them; whoever reserved it before
     /// a lock was taken takes none under it.
     ///
     /// It is refused by the first of these that applies: Unknown where the id was never given, Gone
     /// where the upload has ended or expired, and Unfinished where the upload does not have all of its
     /// bytes; and where none of them does, as Memory where the vector has too little room and got no more.
     /// An upload without bytes needs none.
-    pub fn content(&self, name: &Name, now: Moment, room: Vec<u8>) -> Result<Content, Refusal>
+    pub fn content(&self, name: &Name, now: Moment, begun: Vec<u8>) -> Result<Content, Refusal>
+        requires begun { IsBegun (plain_of self.now) name.now begun.items }
         ensures { IsAnswer
             (answer_of (plain_of self.now) name.now.tenant (content_answer name.now.id now))
-            (LacksRoom (vec_capacity room) (answer_of (plain_of self.now) name.now.tenant (content_answer name.now.id now)))
+            (LacksRoom (vec_capacity begun) (answer_of (plain_of self.now) name.now.tenant (content_answer name.now.id now)))
             (Err Refusal.Memory) result }
     {
         let place = self.store.place(name, now)?;
@@ -67,10 +69,33 @@ impl Book {
         if !self.store.progress(tenant, place).is_complete() {
             return Err(Refusal::Unfinished);
         }
-        match self.store.read(tenant, place, room) {
+        match self.store.read(tenant, place, begun) {
             Ok(bytes) => Ok(Content::of(bytes)),
             Err(_) => Err(Refusal::Memory),
         }
+    }
+
+    /// Copies the next bytes of an upload behind its first ones, which `begun` has: at most `most`, and as many as there is room
+    /// for. Where a GET at `now` is refused, it copies none. So the bytes of a GET can be copied piece by piece, with changes
+    /// between, before [`Book::content`] gives them. It takes no memory.
+    pub fn read_ahead(&self, name: &Name, now: Moment, begun: &mut Vec<u8>, most: usize)
+        requires begun { IsBegun (plain_of self.now) name.now begun.old.items }
+        ensures begins { IsBegun (plain_of self.now) name.now begun.new.items }
+        ensures more { begun.new.items ≡ with_more (answer_of (plain_of self.now) name.now.tenant (content_answer name.now.id now))
+            (min most (vec_capacity begun.old - vec_len begun.old)) begun.old.items }
+        ensures room { vec_capacity begun.old ≤ vec_capacity begun.new }
+    {
+        let Ok(place) = self.store.place(name, now) else {
+            return;
+        };
+        let tenant = usize::from(name.tenant);
+        if !self.store.progress(tenant, place).is_complete() {
+            return;
+        }
+        let done = begun.len();
+        let count = most.min(begun.capacity() - done);
+        self.store
+            .read_onto(tenant, place, done as u64, count, begun);
     }
 
     /// A vector without room, for a GET for which nobody reserved any.

@@ -1,13 +1,13 @@
 //! Lists of pieces: their blocks are held, read and given back one after another.
-ghost use Rattle.std.specs.Prelude.{◌≡◌, ◌+◌, ◌-◌, ◌<◌, ◌≤◌, ◌++◌, drop, map, length, option_map, vec_len, vec_capacity};
+ghost use Rattle.std.specs.Prelude.{◌≡◌, ◌+◌, ◌-◌, ◌<◌, ◌≤◌, ◌++◌, drop, map, length, option_map, take, vec_len, vec_capacity};
 ghost use Rattle.block_pool.specs.Blocks.{free_in};
 ghost use Rattle.block_bodies.specs.Bodies.{IsHeld};
 ghost use Rattle.block_bodies.specs.Changes.{GivesBack, Holds, MayHold};
 ghost use Rattle.upload_book.specs.Charge.{price};
 ghost use Rattle.upload_book.specs.inside.ChargeAfter.{sources_in};
 ghost use Rattle.upload_book.specs.inside.FinalBack.{chain_from};
-ghost use Rattle.upload_book.specs.Stored.{pieces_len, placed_in};
-ghost use Rattle.upload_book.specs.inside.Pieces.{as_piece, bytes_of, AreBodies};
+ghost use Rattle.upload_book.specs.Stored.{placed_in};
+ghost use Rattle.upload_book.specs.inside.Pieces.{as_piece, bytes_of, AreBodies, ReadsWhole};
 
 use block_bodies::{Body, Unheld};
 use block_pool::Pool;
@@ -35,14 +35,27 @@ pub(crate) enum HeldBytes {
     Joined { len: u64, pieces: Vec<Piece> },
 }
 
-/// Reads the bytes of the pieces onto the end of `bytes`, which has room for them.
-pub(crate) fn read_each(pieces: &[Piece], pool: &Pool, bytes: &mut Vec<u8>)
+/// Reads bytes of the pieces from an offset on, one piece behind the other, onto the end of `bytes`: as many as `count`, for
+/// which it has room, or as there are.
+pub(crate) fn read_each(
+    pieces: &[Piece],
+    pool: &Pool,
+    offset: u64,
+    count: usize,
+    bytes: &mut Vec<u8>,
+)
     requires bodies { AreBodies pool.now pieces.now }
-    requires room { vec_len bytes.old + pieces_len pieces.now ≤ vec_capacity bytes.old }
-    ensures { bytes.new.items ≡ bytes.old.items ++ bytes_of pool.now pieces.now }
+    requires whole { ReadsWhole pool.now pieces.now }
+    requires room { vec_len bytes.old + count ≤ vec_capacity bytes.old }
+    ensures items { bytes.new.items ≡ bytes.old.items ++ take count (drop offset (bytes_of pool.now pieces.now)) }
+    ensures room_kept { vec_capacity bytes.old ≤ vec_capacity bytes.new }
 {
+    let end = bytes.len() + count;
+    let mut skipped = offset;
     for piece in pieces {
-        piece.chain.read_onto(pool, bytes);
+        let left = end - bytes.len();
+        piece.chain.read_onto(pool, skipped, left, bytes);
+        skipped = skipped.saturating_sub(piece.chain.len());
     }
 }
 

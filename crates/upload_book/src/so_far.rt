@@ -16,7 +16,7 @@ impl Book {
     ///
     /// It is refused as Unknown where the id was never given, as Gone where the upload has ended or expired, and else as
     /// Memory where the vector has too little room and got no more.
-    pub fn so_far(&self, name: &Name, now: Moment, room: Vec<u8>) -> Result<Content, Refusal>
+    pub fn so_far(&self, name: &Name, now: Moment, mut room: Vec<u8>) -> Result<Content, Refusal>
         ensures { IsAnswer
             (answer_of (plain_of self.now) name.now.tenant (so_far_answer name.now.id now))
             (LacksRoom (vec_capacity room) (answer_of (plain_of self.now) name.now.tenant (so_far_answer name.now.id now)))
@@ -24,6 +24,7 @@ impl Book {
     {
         let place = self.store.place(name, now)?;
         let tenant = usize::from(name.tenant);
+        room.clear();
         match self.store.read(tenant, place, room) {
             Ok(bytes) => Ok(Content::of(bytes)),
             Err(_) => Err(Refusal::Memory),

@@ -212,29 +212,36 @@ impl StoredUpload {
         }
     }
 
-    /// The bytes of the upload, copied once out of the pool into this vector, whatever it had before. The error is
-    /// that it has too little room for them and got no more.
-    pub(crate) fn read(&self, pool: &Pool, room: Vec<u8>) -> Result<Vec<u8>, AllocError>
-        requires { AreBodies pool.now self.now.kept.pieces }
+    /// The bytes of the upload, whose first ones are there already; the others are copied once out of the pool behind them. The
+    /// error is that the vector has too little room for all and got no more.
+    pub(crate) fn read(&self, pool: &Pool, begun: Vec<u8>) -> Result<Vec<u8>, AllocError>
+        requires bodies { AreBodies pool.now self.now.kept.pieces }
+        requires whole { ReadsWhole pool.now self.now.kept.pieces }
+        requires begun { begun.items ≡ take (length begun.items) (upload_content_of (upload_of pool.now self.now.kept)) }
         ensures bytes { IfOk result (λ v. v.items ≡ upload_content_of (upload_of pool.now self.now.kept)) }
-        ensures lacking { OnErr result (vec_capacity room < pieces_len self.now.kept.pieces) }
+        ensures lacking { OnErr result (vec_capacity begun < pieces_len self.now.kept.pieces) }
     {
-        let mut bytes = room;
-        bytes.clear();
-        bytes.reserve_exact(self.offset() as usize)?;
-        self.read_onto(pool, &mut bytes);
+        let mut bytes = begun;
+        let done = bytes.len();
+        let left = (self.offset() as usize).saturating_sub(done);
+        bytes.reserve_exact(left)?;
+        self.read_onto(pool, done as u64, left, &mut bytes);
         Ok(bytes)
     }
 
-    // Reads the bytes of the upload onto the end of a vector that has room for them.
-    fn read_onto(&self, pool: &Pool, bytes: &mut Vec<u8>)
+    /// Bytes of the upload from an offset on, copied once out of the pool onto the end of `bytes`: as many as `count`, for which
+    /// it has room, or as there are.
+    pub(crate) fn read_onto(&self, pool: &Pool, offset: u64, count: usize, bytes: &mut Vec<u8>)
         requires bodies { AreBodies pool.now self.now.kept.pieces }
-        requires room { vec_len bytes.old + pieces_len self.now.kept.pieces ≤ vec_capacity bytes.old }
-        ensures { bytes.new.items ≡ bytes.old.items ++ bytes_of pool.now self.now.kept.pieces }
+        requires whole { ReadsWhole pool.now self.now.kept.pieces }
+        requires room { vec_len bytes.old + count ≤ vec_capacity bytes.old }
+        ensures items { bytes.new.items ≡ bytes.old.items
+            ++ take count (drop offset (upload_content_of (upload_of pool.now self.now.kept))) }
+        ensures room_kept { vec_capacity bytes.old ≤ vec_capacity bytes.new }
     {
         match &self.held {
-            HeldBytes::Own { body, .. } => body.read_onto(pool, bytes),
-            HeldBytes::Joined { pieces, .. } => read_each(pieces, pool, bytes),
+            HeldBytes::Own { body, .. } => body.read_onto(pool, offset, count, bytes),
+            HeldBytes::Joined { pieces, .. } => read_each(pieces, pool, offset, count, bytes),
         }
     }
 

@@ -1,6 +1,7 @@
 -- Uploads as they are kept: which have a piece of their own, and their bytes and parts as the plain book has them.
-use Rattle.std.proofs.Common.{◌≡◌, ◌≢◌, ℕ, List, [], ◌∷◌, ◌++◌, map, length, refl, ap, sym, ◌∙◌, subst, arith, length-append}
+use Rattle.std.proofs.Common.{◌≡◌, ◌≢◌, ℕ, ◌+◌, ◌-◌, drop, take, rules, append_assoc, List, [], ◌∷◌, ◌++◌, map, length, refl, ap, ap₂, sym, ◌∙◌, subst, arith, length-append, length-drop}
 use Rattle.std.specs.List.{All, flat_map}
+use Rattle.std.proofs.lemmas.List.{places, same_lists, take_all, take-append-drop}
 use Rattle.std.proofs.lemmas.List.Sums.{sum_by-cons}
 use Rattle.block_pool.specs.Blocks.{Blocks}
 use Rattle.block_bodies.specs.Bodies.{Chain, content_of}
@@ -55,3 +56,22 @@ parts-join p u parts final same =
     origins : (pieces : List Piece) → map {A = Piece} {B = ℕ} (λ x. x.origin) pieces ≡ map {A = Segment} {B = ℕ} (λ s. s.origin) (map segment_of pieces)
     origins [] = refl
     origins (x ∷ pieces) = ap (λ ids. x.origin ∷ ids) (origins pieces)
+
+-- ---- a range of bytes that lie in parts, onto what stood before
+
+-- a range of two texts is what it has of the first, and the rest of it of the second
+range-both : (front next : List ℕ) (offset count : ℕ) → take count (drop offset front) ++ take (count - length (take count (drop offset front))) (drop (offset - length front) next) ≡ take count (drop offset (front ++ next))
+range-both front next offset count = same_lists _ _ (search (rules, places)) (λ i d l. grind (arith, places))
+
+-- of one part more is read what is left of the range
+pub range-more : (front next before read : List ℕ) (offset count left skipped : ℕ) → read ≡ before ++ take count (drop offset front) → skipped ≡ offset - length front → left ≡ length before + count - length read
+    → read ++ take left (drop skipped next) ≡ before ++ take count (drop offset (front ++ next))
+range-more front next before read offset count left skipped is passed rest =
+    let few : left ≡ count - length (take count (drop offset front)) = omega (arith, ap (λ (bytes : List ℕ). length bytes) is, length-append before (take count (drop offset front))) in
+    rw (few, passed, is) (append_assoc before _ _ ∙ ap (λ (bytes : List ℕ). before ++ bytes) (range-both front next offset count))
+
+-- the first bytes of a text, and the rest of it
+pub range-rest : (content begun : List ℕ) (done left : ℕ) → begun ≡ take (length begun) content → done ≡ length begun → left ≡ length content - done → begun ++ take left (drop done content) ≡ content
+range-rest content begun done left is at rest =
+    let all : take left (drop done content) ≡ drop done content = take_all left (drop done content) (omega (arith, length-drop done content)) in
+    ap (λ (bytes : List ℕ). begun ++ bytes) all ∙ ap₂ (λ (front bytes : List ℕ). front ++ bytes) is (ap (λ (n : ℕ). drop n content) at) ∙ take-append-drop (length begun) content

@@ -13,4 +13,4 @@ returns-in-Look-clause-step c =
 
 pub returns-in-Content-clause-step : goal.returns-in-Content-clause-step
 returns-in-Content-clause-step c =
-    rw c.put_content.ensures (content-step (plain_of c.args.book.now) c.args.request.now c.args.now c.in-Content.name (vec_capacity c.args.room) c.content.result (sym c.in-Content.is ∙ c.requires.found) c.content.ensures)
+    rw c.put_content.ensures (content-step (plain_of c.args.book.now) c.args.request.now c.args.now c.in-Content.name (vec_capacity c.args.begun) c.content.result (sym c.in-Content.is ∙ c.requires.found) c.content.ensures)

@@ -1,4 +1,4 @@
-use Rattle.std.proofs.Common.{◌≡◌, None, inl, rules, refl, sym, subst, ◌∙◌}
+use Rattle.std.proofs.Common.{◌≡◌, inl, rules, refl, sym, subst, ◌∙◌}
 use Rattle.upload_book.specs.Settings.{AreSound, Settings}
 use Rattle.tus_steps.specs.Asked.{asked_in}
 use Rattle.head_board.specs.Events.{HaveHappened}

@@ -1,4 +1,5 @@
 use Rattle.std.proofs.Common.{◌≡◌, Some, ap, option_map, sym, subst, ◌∙◌}
+use Rattle.upload_book.specs.Begun.{IsBegun}
 use Rattle.upload_book.specs.PlainBook.{PlainBook}
 use Rattle.upload_book.specs.Settings.{Settings}
 use Rattle.tus_steps.specs.Asked.{asked_in, change_in}
@@ -11,6 +12,7 @@ use Rattle.tus_shared.specs.Steps.{IsStepAt}
 use Rattle.tus_shared.proofs.ChangeLemmas.{done-step}
 use Rattle.head_board.proofs.SettingsLemmas.{at-settings}
 use Rattle.tus_shared.proofs.FinalLemmas.{request-restores-nothing}
+use Rattle.tus_shared.proofs.HeadLemmas.{begun-later}
 use Rattle.tus_shared.proofs.store.Store.step.Goals as goal
 
 pub returns-in-Change-clause-step : goal.returns-in-Change-clause-step
@@ -36,3 +38,9 @@ answer_asked-requires-clause-found g c =
 
 pub make-outcome-requires-clause-plain : goal.make-outcome-requires-clause-plain
 make-outcome-requires-clause-plain g c = request-restores-nothing g.C.Charges.settings c.args.request.now c.in-Change.asked (ap change_in (sym c.requires.found.is ∙ c.in-Change.is))
+
+pub answer_asked-requires-clause-begun : goal.answer_asked-requires-clause-begun
+answer_asked-requires-clause-begun g c =
+    let s = g.C.Charges.settings in
+    λ name is. subst (λ (b : PlainBook). IsBegun b name c.args.begun.items) (sym c.headline.ensures.stands)
+    (begun-later s name c.args.begun.items c.args.desk.now.seen c.args.self.now c.begin.ensures.begins (c.requires.begun name is))

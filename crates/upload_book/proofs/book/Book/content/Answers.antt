@@ -1,12 +1,15 @@
-use Rattle.std.proofs.Common.{◌≡◌, true, false, Ok, Err, inl, inr, refl, ap, sym, subst, ◌∙◌}
+use Rattle.std.proofs.Common.{◌≡◌, true, false, inl, inr, refl, ap, sym, subst, ◌∙◌}
 use Rattle.std.proofs.lemmas.Result.{err_from_is_err_and}
-use Rattle.upload_book.specs.Content.{LacksRoom, bytes_of, content_answer, content_told}
+use Rattle.upload_book.specs.Content.{LacksRoom, bytes_of, content_answer}
 use Rattle.upload_book.specs.contracts.book.Book.{the_view}
 use Rattle.upload_book.specs.declared.progress.Progress.{Progress}
-use Rattle.upload_book.specs.declared.refusal.Refusal.TheVariants.{Unfinished}
 use Rattle.upload_book.specs.BlockStore.{upload_at}
-use Rattle.upload_book.specs.Upload.{Upload, content_of, is_complete, is_reached}
-use Rattle.upload_book.proofs.Steps.BookSteps.{answer-plain}
+use Rattle.upload_book.specs.Upload.{Upload, is_complete, is_reached}
+use Rattle.upload_book.specs.Begun.{IsBegun}
+use Rattle.upload_book.specs.Book.{plain_of}
+use Rattle.upload_book.specs.TenantBook.{visible_upload}
+use Rattle.upload_book.proofs.BegunLemmas.{begun-seen, told, untold}
+use Rattle.upload_book.proofs.Steps.BookSteps.{answer-plain, part-plain}
 use Rattle.upload_book.proofs.book.Book.content.Goals as goal
 
 pub returns-in_err-place : goal.returns-in_err-place
@@ -14,13 +17,12 @@ returns-in_err-place c =
     let p = err_from_is_err_and c.from_residual.result c.from_residual.ensures.1 in
     inl (rw (p.1, p.2, ← c.self.view_is) (sym (answer-plain (the_view c.self.inside) c.args.name.now.tenant (content_answer c.args.name.now.id c.args.now) ∙ ap bytes_of c.in_err-place.ensures.refused)))
 
--- an upload that is complete tells its bytes
-told : (u : Upload) → is_complete u ≡ true → content_told u ≡ Ok (content_of u)
-told u complete = rw complete refl
-
--- and one that is not does not
-untold : (u : Upload) → is_complete u ≡ false → content_told u ≡ Err Unfinished
-untold u unfinished = rw unfinished refl
+pub read-requires-clause-begun : goal.read-requires-clause-begun
+read-requires-clause-begun c =
+    let t = c.args.name.now.tenant in
+    let begun : IsBegun (plain_of (the_view c.self.inside)) c.args.name.now c.args.begun.items = subst (λ b. IsBegun (plain_of b) c.args.name.now c.args.begun.items) (sym c.self.view_is) c.requires.begun in
+    let seen = ap (λ part. visible_upload part c.args.name.now.id c.args.now) (part-plain (the_view c.self.inside) t) ∙ c.in_ok-place.ensures.visible.visible in
+    rw c.from-tenant.ensures (begun-seen (plain_of (the_view c.self.inside)) c.args.name.now c.args.now (upload_at c.self.inside.store t c.in_ok-place.place) c.args.begun.items begun seen)
 
 pub returns-then-not-is_complete : goal.returns-then-not-is_complete
 returns-then-not-is_complete c =

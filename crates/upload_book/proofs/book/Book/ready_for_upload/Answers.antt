@@ -13,7 +13,7 @@ use Rattle.upload_book.specs.Ready.{IsReadyForUpload}
 use Rattle.block_bodies.specs.Bodies.{HasRoom}
 use Rattle.upload_book.specs.BlockStore.{part_at}
 use Rattle.upload_book.proofs.Steps.BookSteps.{part-plain, stored_tenants-settings}
-use Rattle.upload_book.proofs.Steps.CreateSteps.{IsCreation, all_create-blocks, all_create-fits, all_create-taken, create-lacks}
+use Rattle.upload_book.proofs.Steps.CreateSteps.{IsCreation, all_create-blocks, all_create-taken, create-lacks}
 use Rattle.upload_book.proofs.Lawful.LawfulCreate.{HasLawfulTexts}
 use Rattle.upload_book.proofs.Lawful.Outcomes.{create_answer-refused}
 use Rattle.upload_book.proofs.Steps.PatchSteps.{account_at}

@@ -19,4 +19,4 @@ pub returns-in-Err : goal.returns-in-Err
 returns-in-Err c =
     let lacks = rw c.from-tenant.ensures at c.in-Err.ensures.lacking in
     let answer = answer-plain (the_view c.self.inside) c.args.name.now.tenant (so_far_answer c.args.name.now.id c.args.now) ∙ ap bytes_had c.in_ok-place.ensures.visible.visible in
-    inr (rw (← c.self.view_is) (subst (LacksRoom _) (sym answer) lacks), refl)
+    inr (rw (← c.self.view_is, ← c.clear.ensures.capacity) (subst (LacksRoom _) (sym answer) lacks), refl)
