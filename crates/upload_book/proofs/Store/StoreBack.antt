@@ -64,7 +64,7 @@ module _ (v : Inside) (t : ℕ) (old : KeptTenant) (r : ReadyBack) (kept : IsKep
   standing = ap (λ (s : StoredTenant). sent_in (part_of v.pool s).uploads) (stored_tenant_at-part v t old part) ∙ sent-pieces v.pool was.uploads (own-part v t old kept part)
 
   -- there are few
-  pieces-most : length (pieces_of was) ≤ 2048
+  pieces-most : length (pieces_of was) ≤ 2097152
   pieces-most =
       let here = stored_tenant_at-part v t old part in
       let each : All (λ (e : Entry StoredUpload). length e.kept.pieces ≤ 32) was.uploads = λ k d l.
@@ -72,7 +72,7 @@ module _ (v : Inside) (t : ℕ) (old : KeptTenant) (r : ReadyBack) (kept : IsKep
       let entry : get_or (part_of v.pool was).uploads k (entry_of v.pool d) ≡ entry_of v.pool e = get_or-map (entry_of v.pool) was.uploads k d (entry_of v.pool d) l in
       let few : All (λ (e : Entry Upload). length e.kept.segments ≤ 32) (part_of v.pool was).uploads = subst (λ (s : StoredTenant). All (λ (e : Entry Upload). length e.kept.segments ≤ 32) (part_of v.pool s).uploads) here may.few.segments in
       omega (arith, few k (entry_of v.pool d) (omega (arith, l, length-map was.uploads (entry_of v.pool))), ap (λ (e : Entry Upload). length e.kept.segments) entry, length-map e.kept.pieces (λ (x : Piece). content_of v.pool x.chain)) in
-      let uploads : length was.uploads ≤ 64 = omega (arith, may.few.uploads, ap (λ (s : StoredTenant). length (part_of v.pool s).uploads) here, length-map was.uploads (entry_of v.pool)) in
+      let uploads : length was.uploads ≤ 65536 = omega (arith, may.few.uploads, ap (λ (s : StoredTenant). length (part_of v.pool s).uploads) here, length-map was.uploads (entry_of v.pool)) in
       omega (arith, uploads, pieces-few was 32 each)
 
   to-have : AreToHave v.pool was segments
