@@ -1,11 +1,10 @@
 -- The rows of a tenant, entry by entry.
-use Rattle.std.proofs.Common.{◌≡◌, ℕ, zero, suc, ◌+◌, ◌<◌, ◌≤◌, Bool, true, false, cond, not, eqb, List, [], ◌∷◌, ◌++◌, length, get_or, set, Option, option_map, Some, None, Ok, Err, inl, inr, refl, sym, ap, ap₂, subst, ◌∙◌, arith}
-use Rattle.std.specs.List.{All, filter, position, remove}
+use Rattle.std.proofs.Common.{◌≡◌, ℕ, zero, suc, ◌+◌, ◌<◌, ◌≤◌, Bool, true, false, cond, not, eqb, List, [], ◌∷◌, length, get_or, set, Option, option_map, Some, None, Ok, Err, inl, inr, refl, sym, ap, ap₂, ◌∙◌, arith}
+use Rattle.std.specs.List.{filter, position, remove}
 use Rattle.std.specs.List.Sorted.{IsStrictlyIncreasing}
-use Rattle.std.proofs.lemmas.List.{map-append}
 use Rattle.std.proofs.lemmas.Bool.Decides.{eqb_tells, nat_tests}
 use Rattle.std.proofs.lemmas.List.Edits.{get_or-remove_below, length-remove}
-use Rattle.std.proofs.lemmas.List.Elements.{All-get_or, All-map, All-push, All-set, All-weaker}
+use Rattle.std.proofs.lemmas.List.Elements.{All-get_or}
 use Rattle.std.proofs.lemmas.List.Quantifiers.{position-Some}
 use Rattle.upload_book.specs.declared.head_row.HeadRow.{HeadRow}
 use Rattle.upload_book.specs.declared.head_row.Kind.TheVariants.{Plain}
@@ -13,8 +12,7 @@ use Rattle.upload_book.specs.declared.refusal.Refusal.TheVariants.{Gone}
 use Rattle.upload_book.specs.Expiry.{has_expired}
 use Rattle.upload_book.specs.Heads.{HeadPart}
 use Rattle.upload_book.specs.TenantBook.{Entry, kept_in, visible_in, with_kept}
-use Rattle.upload_book.proofs.Lawful.Entries.{ascending-filter, filter_all, has_id, ids-push, ids_of-with_kept, kept_in-position, visible_in-given, with_kept-place, without-place}
-use Rattle.upload_book.proofs.Store.Pieces.{All-remove}
+use Rattle.upload_book.proofs.Lawful.Entries.{filter_all, has_id, kept_in-position, visible_in-given, with_kept-place, without-place}
 use Rattle.upload_book.specs.inside.Ids.{AreBelow}
 use Rattle.head_board.specs.inside.Rows.{Rows, row_ids}
 

@@ -1,5 +1,5 @@
 -- How a table keeps the rows of a tenant.
-use Rattle.std.specs.Prelude.{◌≡◌, ◌+◌, ◌<◌, ◌≤◌, ℕ, ◌==◌, Bool, true, false, List, map, vec_len, vec_capacity, All, Option, Some, None, min, ⊤}
+use Rattle.std.specs.Prelude.{◌≡◌, ◌+◌, ◌≤◌, ℕ, ◌==◌, Bool, true, false, List, map, vec_len, vec_capacity, All, Option, Some, None, min, ⊤}
 use Rattle.head_board.specs.declared.head_rows.HeadRows.TheInside.{Inside}
 use Rattle.upload_book.specs.declared.head_note.Growth.{Growth}
 use Rattle.upload_book.specs.declared.head_row.HeadRow.{HeadRow}
