@@ -75,6 +75,14 @@ module _ {K : Type 0} where
           get_or-map (λ (e : Entry K). e.id) entries j d,
         )
 
+    -- ids don't fall, as another halving asks
+    pub ids_rise : IsNonDecreasingBy (λ (e : Entry K). e.id) entries
+    ids_rise i j d no_later within =
+        elim (cases_lt i j) [
+          | inl before ↦ (let less = rises i j d before within in omega arith)
+          | inr other ↦ (let same : i ≡ j = omega arith in rw same (omega arith))
+        ]
+
     -- what ids compare as with one rises, as a halving asks
     comparisons_rise : IsNonDecreasingBy (λ (e : Entry K). ordering_index (nat_cmp e.id id)) entries
     comparisons_rise i j d no_later within =
