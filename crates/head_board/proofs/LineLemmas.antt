@@ -26,8 +26,8 @@ use Rattle.head_board.specs.Event.{Event}
 use Rattle.head_board.specs.Events.{AllHappen, Happens, change_event}
 use Rattle.head_board.specs.Laws.{IsLater, IsLaterBook, LaterEvents, LinesHaveRoom}
 use Rattle.head_board.specs.Room.{has_room}
-use Rattle.head_board.specs.inside.Rows.{AreBelow}
-use Rattle.head_board.proofs.RowLemmas.{AreBelow-next, AreBelow-none, AreBelow-push}
+use Rattle.upload_book.specs.inside.Ids.{AreBelow}
+use Rattle.upload_book.proofs.Lawful.IdLemmas.{AreBelow-next, AreBelow-none, AreBelow-push}
 
 -- the tests of room hold where the numbers do
 room_tests : (tenants t next id rows room last : ℕ) → (t < tenants → id ≡ next → (rows < room) × (next ≤ last)) → (leb tenants t || (not (eqb id next) || (ltb rows room && leb next last))) ≡ true

@@ -1,11 +1,10 @@
 -- The rows of a tenant, entry by entry.
-use Rattle.std.proofs.Common.{◌≡◌, ℕ, zero, suc, ◌+◌, ◌<◌, ◌≤◌, Bool, true, false, cond, not, eqb, List, [], ◌∷◌, ◌++◌, length, get_or, set, Option, option_map, Some, None, Ok, Err, inl, inr, refl, sym, ap, ap₂, subst, ◌∙◌, arith}
-use Rattle.std.specs.List.{All, filter, position, remove}
+use Rattle.std.proofs.Common.{◌≡◌, ℕ, zero, suc, ◌+◌, ◌<◌, ◌≤◌, Bool, true, false, cond, not, eqb, List, [], ◌∷◌, length, get_or, set, Option, option_map, Some, None, Ok, Err, inl, inr, refl, sym, ap, ap₂, ◌∙◌, arith}
+use Rattle.std.specs.List.{filter, position, remove}
 use Rattle.std.specs.List.Sorted.{IsStrictlyIncreasing}
-use Rattle.std.proofs.lemmas.List.{map-append}
 use Rattle.std.proofs.lemmas.Bool.Decides.{eqb_tells, nat_tests}
 use Rattle.std.proofs.lemmas.List.Edits.{get_or-remove_below, length-remove}
-use Rattle.std.proofs.lemmas.List.Elements.{All-get_or, All-map, All-push, All-set, All-weaker}
+use Rattle.std.proofs.lemmas.List.Elements.{All-get_or}
 use Rattle.std.proofs.lemmas.List.Quantifiers.{position-Some}
 use Rattle.upload_book.specs.declared.head_row.HeadRow.{HeadRow}
 use Rattle.upload_book.specs.declared.head_row.Kind.TheVariants.{Plain}
@@ -13,9 +12,9 @@ use Rattle.upload_book.specs.declared.refusal.Refusal.TheVariants.{Gone}
 use Rattle.upload_book.specs.Expiry.{has_expired}
 use Rattle.upload_book.specs.Heads.{HeadPart}
 use Rattle.upload_book.specs.TenantBook.{Entry, kept_in, visible_in, with_kept}
-use Rattle.upload_book.proofs.Lawful.Entries.{ascending-filter, filter_all, has_id, ids-push, ids_of-with_kept, kept_in-position, visible_in-given, with_kept-place, without-place}
-use Rattle.upload_book.proofs.Store.Pieces.{All-remove}
-use Rattle.head_board.specs.inside.Rows.{AreBelow, Rows, row_ids}
+use Rattle.upload_book.proofs.Lawful.Entries.{filter_all, has_id, kept_in-position, visible_in-given, with_kept-place, without-place}
+use Rattle.upload_book.specs.inside.Ids.{AreBelow}
+use Rattle.head_board.specs.inside.Rows.{Rows, row_ids}
 
 -- no row, where one is only needed for a place past the end
 no_row : Entry HeadRow
@@ -23,38 +22,6 @@ no_row = record {
   id = 0;
   kept = record { kind = Plain; offset = 0; declared = None; metadata = []; concat = []; expires = None };
 }
-
--- there are no ids yet
-pub AreBelow-none : (next : ℕ) → AreBelow next []
-AreBelow-none next = record { ascending = λ k within. absurd (omega arith); below = λ k d within. absurd (omega arith) }
-
--- they stay below a next id that is further
-pub AreBelow-next : (next further : ℕ) (rows : List (Entry HeadRow)) → next ≤ further → AreBelow next rows → AreBelow further rows
-AreBelow-next next further rows more are = record {
-  ascending = are.ascending;
-  below = All-weaker (λ (e : Entry HeadRow). e.id < next) (λ (e : Entry HeadRow). e.id < further) (λ (e : Entry HeadRow) less. omega (arith, less, more)) rows are.below;
-}
-
--- the next id comes after all
-pub AreBelow-push : (next : ℕ) (rows : List (Entry HeadRow)) (row : HeadRow) → AreBelow next rows → AreBelow (next + 1) (rows ++ record { id = next; kept = row } ∷ [])
-AreBelow-push next rows row are =
-    let e : Entry HeadRow = record { id = next; kept = row } in
-    let ids : row_ids (rows ++ e ∷ []) ≡ row_ids rows ++ next ∷ [] = map-append (λ (e : Entry HeadRow). e.id) rows (e ∷ []) in
-    let less : All (λ (e : Entry HeadRow). e.id < next + 1) rows = All-weaker (λ (e : Entry HeadRow). e.id < next) (λ (e : Entry HeadRow). e.id < next + 1) (λ (e : Entry HeadRow) h. omega arith) rows are.below in
-    record {
-      ascending = subst IsStrictlyIncreasing (sym ids) (ids-push (row_ids rows) next are.ascending (All-map (λ (a : ℕ). a < next) (λ (e : Entry HeadRow). e.id) rows are.below));
-      below = All-push (λ (e : Entry HeadRow). e.id < next + 1) rows e less (omega arith);
-    }
-
--- the others keep their ids where one is taken out
-pub AreBelow-remove : (next : ℕ) (rows : List (Entry HeadRow)) (place : ℕ) (d : Entry HeadRow) → place < length rows → AreBelow next rows → AreBelow next (remove rows place)
-AreBelow-remove next rows place d within are =
-    let id : ℕ = (get_or rows place d).id in
-    let left = without-place rows id place d are.ascending within refl in
-    record {
-      ascending = subst (λ rows. IsStrictlyIncreasing (row_ids rows)) left (ascending-filter (λ (e : Entry HeadRow). not (eqb e.id id)) rows are.ascending);
-      below = All-remove (λ (e : Entry HeadRow). e.id < next) rows place are.below;
-    }
 
 -- a row changes under its id
 pub is_set : (rows : List (Entry HeadRow)) (id place : ℕ) (e after : Entry HeadRow) (row : HeadRow) → IsStrictlyIncreasing (row_ids rows) → position (has_id id) rows ≡ Some place → e ≡ get_or rows place e → after ≡ record e { kept = row } → set rows place after ≡ with_kept rows id row
@@ -64,15 +31,9 @@ is_set rows id place e after row ascending found read is =
     let id_is : e.id ≡ id = ap (λ (e : Entry HeadRow). e.id) read ∙ named in
     ap (set rows place) (is ∙ ap (λ (n : ℕ). let e : Entry HeadRow = record { id = n; kept = row } in e) id_is) ∙ sym (with_kept-place rows id place e row ascending at.0 named)
 
--- the ids stay then
-pub AreBelow-set : (next : ℕ) (rows : List (Entry HeadRow)) (id place : ℕ) (e after : Entry HeadRow) (row : HeadRow) → position (has_id id) rows ≡ Some place → e ≡ get_or rows place e → after ≡ record e { kept = row } → AreBelow next rows → AreBelow next (set rows place after)
-AreBelow-set next rows id place e after row found read is are =
-    let at = position-Some (has_id id) rows place e found in
-    let P : Entry HeadRow → Type 0 = λ (e : Entry HeadRow). e.id < next in
-    record {
-      ascending = subst (λ rows. IsStrictlyIncreasing (row_ids rows)) (sym (is_set rows id place e after row are.ascending found read is)) (subst IsStrictlyIncreasing (sym (ids_of-with_kept rows id row)) are.ascending);
-      below = All-set P rows place after (subst P (sym is) (subst P (sym read) (All-get_or P rows place e at.0 are.below))) are.below;
-    }
+-- the place that was found is one of theirs
+pub found-within : (rows : List (Entry HeadRow)) (id place : ℕ) → position (has_id id) rows ≡ Some place → place < length rows
+found-within rows id place found = (position-Some (has_id id) rows place no_row found).0
 
 -- the row at its place stands under its id,
 pub kept-placed : (rows : List (Entry HeadRow)) (id place : ℕ) (e : Entry HeadRow) → position (has_id id) rows ≡ Some place → e ≡ get_or rows place e → kept_in rows id ≡ Some e.kept

@@ -90,7 +90,7 @@ with_run_sizes command =
     (option_rule (codes "block-size") (codes "4096") no_end))
     (option_rule (codes "lifetime") (codes "86400") no_end))
     (number_rule (codes "max-size") 0 no_end))
-    (option_rule (codes "uploads") (codes "64") no_end)
+    (option_rule (codes "uploads") (codes "1024") no_end)
 
 -- the command `talk`: its options with their defaults, and the tenants
 abbrev pub talk_command : App

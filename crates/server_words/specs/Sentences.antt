@@ -8,7 +8,7 @@ use Rattle.upload_book.specs.declared.settings.Bounds.TheVariants.{Narrow}
 use Rattle.upload_book.specs.declared.settings.Numbers.{Numbers}
 use Rattle.upload_book.specs.declared.settings_fault.SettingsFault.{SettingsFault}
 use Rattle.upload_book.specs.declared.settings_fault.SettingsFault.TheVariants as settings
-use Rattle.upload_book.specs.Settings.{block_size_limit, blocks_limit, pool_limit, size_limit}
+use Rattle.upload_book.specs.Settings.{block_size_limit, blocks_limit, pool_limit, size_limit, uploads_limit}
 use Rattle.server_words.specs.Arguments.{CommandArguments, bounds_by, talk, serve, check, export}
 use Rattle.server_words.specs.Tenants.{is_colon, quota_sum, tenant_in}
 use Rattle.server_words.specs.declared.cause.Cause.{Cause}
@@ -93,7 +93,7 @@ settings_text bounds settings.BlockSize n words = outside_text (codes "block-siz
 settings_text bounds settings.PoolBytes n words = pool_text n (pool_limit bounds)
 settings_text bounds settings.Lifetime n words = outside_text (codes "lifetime") n.lifetime 31536000
 settings_text bounds settings.MaxSize n words = outside_text (codes "max-size") n.max_size (size_limit bounds)
-settings_text bounds settings.Uploads n words = outside_text (codes "uploads") n.uploads 64
+settings_text bounds settings.Uploads n words = outside_text (codes "uploads") n.uploads (uploads_limit bounds)
 settings_text bounds settings.LastId n words = codes "the last id is out of its range\n"
 settings_text bounds settings.TenantCount n words = tenants_text (length words)
 settings_text bounds settings.TenantName n words = word_text (wrong_word n.block_size words)

@@ -25,9 +25,9 @@ Exit status:
 At 2, 3, 4 and 5 standard error says why.";
 
 const RUN_HELP: &str = "\
-It is serve --forever --port 8080 --pieces 262144, with as many --blocks as the quotas sum to, the largest quota in bytes
-as --max-size, and 268435456 bytes more than an upload can have as --body-memory. Each of these but --forever can be told
-otherwise.
+It is serve --forever --port 8080 --pieces 262144 --uploads 1024, with as many --blocks as the quotas sum to, the largest
+quota in bytes as --max-size, and 268435456 bytes more than an upload can have as --body-memory. Each of these but
+--forever can be told otherwise.
 A quota is a number of blocks, or of bytes with KiB, MiB, GiB or TiB, of which the whole blocks count: with blocks of
 4096 bytes acme:262144 and acme:1GiB are the same. An upload takes a block for each that its bytes begin.
 All uploads are kept in memory that is asked for at the start: as much as all quotas together, which is at most 2^44 bytes.
@@ -586,7 +586,7 @@ fn pieces<'a>(alloc: Global) -> Arg<'a>
     number_alone(alloc, "pieces", "BYTES")
         .value_parser(value_parser!(u64).range(65_536..1_048_577))
         .help(
-            "Store bodies without a checksum as they come, in pieces of so many bytes, 65536 to 1048576; --blocks may then be up to 4294967295, --block-size to 1048576, all blocks together 2^44 bytes, and --max-size up to 1099511627776",
+            "Store bodies without a checksum as they come, in pieces of so many bytes, 65536 to 1048576; --blocks may then be up to 4294967295, --block-size to 1048576, all blocks together 2^44 bytes, --max-size up to 1099511627776, and --uploads up to 65536",
         )
 }
 
@@ -649,7 +649,7 @@ fn run_sizes<'a>(alloc: Global, command: Command<'a>) -> Result<Command<'a>, All
         .arg(run_block_size(alloc))?
         .arg(lifetime(alloc))?
         .arg(run_max_size(alloc))?
-        .arg(uploads(alloc))
+        .arg(run_uploads(alloc))
 }
 
 /// The option for how many blocks `run` has.
@@ -708,6 +708,14 @@ fn uploads<'a>(alloc: Global) -> Arg<'a>
     ensures local { result.global ≡ false }
 {
     number(alloc, "uploads", "N", "64").help("How many uploads a tenant has at most, 1 to 64")
+}
+
+/// The option for how many uploads a tenant of `run` has.
+fn run_uploads<'a>(alloc: Global) -> Arg<'a>
+    ensures rule { rule_of result ≡ option_rule (codes "uploads") (codes "1024") 18446744073709551615 }
+    ensures local { result.global ≡ false }
+{
+    number(alloc, "uploads", "N", "1024").help("How many uploads a tenant has at most, 1 to 65536")
 }
 
 /// The words that name the tenants.

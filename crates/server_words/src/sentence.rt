@@ -192,7 +192,7 @@ fn settings_line(
         SettingsFault::PoolBytes => pool_line(numbers, bounds.pool_limit()),
         SettingsFault::Lifetime => outside("lifetime", numbers.lifetime, 31_536_000),
         SettingsFault::MaxSize => outside("max-size", numbers.max_size, bounds.size_limit()),
-        SettingsFault::Uploads => outside("uploads", numbers.uploads, 64),
+        SettingsFault::Uploads => outside("uploads", numbers.uploads, bounds.uploads_limit()),
         SettingsFault::LastId => line("the last id is out of its range\n"),
         SettingsFault::TenantCount => tenants_line(words.len()),
         SettingsFault::TenantName => word_line(wrong_word(words, numbers.block_size)),

@@ -4,7 +4,7 @@ use server_words::{read_settings, settings_text};
 /// A text of settings, and the text of the settings that it gives, where it gives some.
 type Row = (&'static str, Option<&'static str>);
 
-static ROWS: [Row; 14] = [
+static ROWS: [Row; 16] = [
     (
         "acme:16MiB\n",
         Some(
@@ -29,6 +29,12 @@ static ROWS: [Row; 14] = [
             "--blocks\n4096\n--block-size\n4096\n--lifetime\n86400\n--max-size\n1099511627776\n--uploads\n64\n--\nacme:8\n",
         ),
     ),
+    (
+        "--uploads\n65536\nacme:8\n",
+        Some(
+            "--blocks\n4096\n--block-size\n4096\n--lifetime\n86400\n--max-size\n1048576\n--uploads\n65536\n--\nacme:8\n",
+        ),
+    ),
     ("", None),
     ("\n", None),
     ("acme\n", None),
@@ -37,6 +43,7 @@ static ROWS: [Row; 14] = [
     ("acme:8\nacme:9\n", None),
     ("--lifetime\n0\nacme:8\n", None),
     ("--max-size\n1099511627777\nacme:8\n", None),
+    ("--uploads\n65537\nacme:8\n", None),
     ("--nothing\nacme:8\n", None),
     ("--help\n", None),
 ];

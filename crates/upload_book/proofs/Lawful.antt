@@ -2,6 +2,7 @@
 pub mod AppendLemmas
 pub mod Entries
 pub mod FirstRefusal
+pub mod IdLemmas
 pub mod LawfulSteps
 pub mod SharedLemmas
 pub mod LawfulAppend

@@ -6,6 +6,7 @@ pub mod PutLemmas
 pub mod JoinLemmas
 pub mod JoinedLemmas
 pub mod PlainStoredTenants
+pub mod InOrder
 pub mod StoreLemmas
 pub mod StoreNext
 pub mod BackLemmas

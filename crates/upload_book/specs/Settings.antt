@@ -53,6 +53,11 @@ abbrev pub size_limit : Bounds → ℕ
 size_limit Narrow = 2 ^ 24
 size_limit Wide = 2 ^ 40
 
+-- the most uploads of a tenant, under these bounds
+abbrev pub uploads_limit : Bounds → ℕ
+uploads_limit Narrow = 64
+uploads_limit Wide = 2 ^ 16
+
 -- the tests of the numbers under these bounds, in this order
 abbrev pub number_tests : Bounds → Numbers → List (Bool × SettingsFault)
 number_tests bounds n =
@@ -61,7 +66,7 @@ number_tests bounds n =
     ∷ (nat_lt (pool_limit bounds) (n.blocks * n.block_size), PoolBytes)
     ∷ (is_outside n.lifetime 31536000, Lifetime)
     ∷ (is_outside n.max_size (size_limit bounds), MaxSize)
-    ∷ (is_outside n.uploads 64, Uploads)
+    ∷ (is_outside n.uploads (uploads_limit bounds), Uploads)
     ∷ (is_outside n.last_id (2 ^ 64 - 2), LastId)
     ∷ []
 

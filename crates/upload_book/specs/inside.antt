@@ -3,6 +3,7 @@ pub mod Back
 pub mod ChargeAfter
 pub mod FinalBack
 pub mod HeldBytes
+pub mod Ids
 pub mod Kept
 pub mod KeptUpload
 pub mod Notes

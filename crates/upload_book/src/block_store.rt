@@ -217,7 +217,7 @@ impl BlockStore {
     }
 
     /// The place, in its tenant's part, of the upload of this name, whether it has expired or not; `None` where there is
-    /// none. It goes over the tenant's uploads once.
+    /// none.
     pub(crate) fn find(&self, name: &Name) -> Option<usize>
         ensures { result ≡ position (λ e. e.id == name.now.id) (stored_tenant_at self.now name.now.tenant).uploads }
     {

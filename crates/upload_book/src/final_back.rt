@@ -3,6 +3,7 @@ ghost use Rattle.std.specs.Prelude.{◌≡◌, ◌+◌, ◌<◌, ◌≤◌, ◌^
 ghost use Rattle.std.specs.List.{list_all};
 ghost use Rattle.block_pool.specs.Blocks.{Blocks};
 ghost use Rattle.upload_book.specs.inside.FinalBack.{AreRoomsFor, Brings, BringsTo, HasBytes, IsRoomFor, MayBring, MayBringEach, brought_blocks, brought_from, brought_in, chain_from, left_of, left_with, segment_len, sent_len};
+ghost use Rattle.upload_book.specs.inside.Ids.{AreBelow};
 ghost use Rattle.upload_book.specs.inside.Kept.{stored_tenant_of};
 ghost use Rattle.upload_book.specs.inside.Pieces.{HasOwnPiece, ReadsWhole};
 ghost use Rattle.upload_book.specs.snapshot.Restore.{may_be_part, sent_back, sent_in};
@@ -109,6 +110,7 @@ impl StoredTenant {
 
     /// Whether what stands under the origin of each segment, if anything does, is a partial upload with all of its bytes.
     pub(crate) fn may_be_parts(&self, segments: &[RestoredSegment]) -> bool
+        requires { AreBelow self.now.next self.now.uploads.items }
         ensures { (p : Blocks) → ReadsWhole p (pieces_of (stored_tenant_of self.now))
             → result ≡ list_all (λ s. may_be_part (part_of p (stored_tenant_of self.now)) s.origin) segments.now }
     {
@@ -123,6 +125,7 @@ impl StoredTenant {
 
     // Whether what stands under an id, if anything does, is such an upload.
     fn may_be_part(&self, id: u64) -> bool
+        requires { AreBelow self.now.next self.now.uploads.items }
         ensures { (p : Blocks) → ReadsWhole p (pieces_of (stored_tenant_of self.now))
             → result ≡ may_be_part (part_of p (stored_tenant_of self.now)) id }
     {

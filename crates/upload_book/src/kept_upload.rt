@@ -79,7 +79,7 @@ impl<'a> KeptUpload<'a> {
         self.stored_tenant.uploads[self.place].piece_count()
     }
 
-    /// A segment, from 0. It goes over the tenant's pieces up to this one.
+    /// A segment, from 0. It goes over the tenant's pieces from the upload to which its bytes were sent up to this one.
     pub fn segment(&self, place: usize) -> KeptSegment<'a>
         requires { place < length self.now.segments }
         ensures { (d : RestoredSegment) → result ≡ get_or self.now.segments place d }

@@ -11,8 +11,7 @@ use crate::row_ref::RowRef;
 
 impl Book {
     /// What a HEAD of an upload tells at `now`. It is refused as Unknown where the id was never given,
-    /// and as Gone where the upload has ended or expired. It goes over the tenant's uploads once, and
-    /// takes no memory.
+    /// and as Gone where the upload has ended or expired. It takes no memory.
     pub fn look(&self, name: &Name, now: Moment) -> Result<HeadRow, Refusal>
         ensures { result ≡ answer_of (plain_of self.now) name.now.tenant (look_answer name.now.id now) }
     {

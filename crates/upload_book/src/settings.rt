@@ -2,7 +2,7 @@ ghost use Rattle.std.specs.Prelude.{◌≡◌, ◌<◌, ◌≤◌, ◌^◌, not,
 ghost use Rattle.std.specs.List.{list_all, list_any};
 ghost use Rattle.tus_text.specs.Tenant.{is_tenant_name};
 ghost use Rattle.upload_book.specs.Refusal.{first_that_holds};
-ghost use Rattle.upload_book.specs.Settings.{AreSound, settings_of, blocks_limit, block_size_limit, pool_limit, size_limit, tenants_of, tenant_place, number_tests, tenant_tests, is_outside, has_name_twice};
+ghost use Rattle.upload_book.specs.Settings.{AreSound, settings_of, blocks_limit, block_size_limit, pool_limit, size_limit, uploads_limit, tenants_of, tenant_place, number_tests, tenant_tests, is_outside, has_name_twice};
 ghost use Rattle.upload_book.specs.declared.settings.Bounds.TheVariants.{Narrow};
 
 use crate::settings_fault::SettingsFault;
@@ -17,9 +17,10 @@ pub const TENANTS_MAX: usize = 16;
 #[derive(Clone, Copy, Debug, PartialEq, Eq)]
 pub enum Bounds {
     /// There are at most 2^20 blocks of at most 2^16 bytes, together at most 2^30. An upload has at most 2^24 bytes, so the body
-    /// of a request may be held as a whole.
+    /// of a request may be held as a whole. A tenant has at most 64 uploads.
     Narrow,
-    /// There are at most 2^32 - 1 blocks of at most 2^20 bytes, together at most 2^44. An upload has at most 2^40 bytes.
+    /// There are at most 2^32 - 1 blocks of at most 2^20 bytes, together at most 2^44. An upload has at most 2^40 bytes,
+    /// and a tenant at most 2^16 uploads.
     Wide,
 }
 
@@ -63,6 +64,16 @@ impl Bounds {
             Bounds::Wide => 1_099_511_627_776,
         }
     }
+
+    /// The most uploads that a tenant may have.
+    pub fn uploads_limit(self) -> u64
+        ensures { result ≡ uploads_limit self }
+    {
+        match self {
+            Bounds::Narrow => 64,
+            Bounds::Wide => 65_536,
+        }
+    }
 }
 
 /// The numbers that a server is set up with.
@@ -78,7 +89,7 @@ pub struct Numbers {
     pub lifetime: u64,
     /// The most bytes of an upload: 1 to 16,777,216, or to 2^40 under the wide bounds.
     pub max_size: u64,
-    /// The most uploads that the book keeps for a tenant: 1 to 64.
+    /// The most uploads that the book keeps for a tenant: 1 to 64, or to 65,536 under the wide bounds.
     pub uploads: u64,
     /// The last id that is given: 1 to 2^64 - 2.
     pub last_id: u64,
@@ -236,7 +247,7 @@ fn number_fault(bounds: Bounds, numbers: Numbers) -> Option<SettingsFault>
         Some(SettingsFault::Lifetime)
     } else if is_outside(numbers.max_size, bounds.size_limit()) {
         Some(SettingsFault::MaxSize)
-    } else if is_outside(numbers.uploads, 64) {
+    } else if is_outside(numbers.uploads, bounds.uploads_limit()) {
         Some(SettingsFault::Uploads)
     } else if is_outside(numbers.last_id, u64::MAX - 1) {
         Some(SettingsFault::LastId)

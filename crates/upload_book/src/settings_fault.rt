@@ -18,7 +18,7 @@ pub enum SettingsFault {
     Lifetime,
     /// The greatest size is outside 1 to 16,777,216 bytes, or 1 to 2^40 under the wide bounds.
     MaxSize,
-    /// The number of uploads of a tenant is outside 1 to 64.
+    /// The number of uploads of a tenant is outside 1 to 64, or 1 to 65,536 under the wide bounds.
     Uploads,
     /// The last id is 0 or 2^64 - 1.
     LastId,

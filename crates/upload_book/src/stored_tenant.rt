@@ -24,7 +24,8 @@ pub(crate) struct StoredTenant {
 }
 
 impl StoredTenant {
-    ghost use Rattle.upload_book.specs.inside.Kept.{stored_tenant_of, HasUploadRoom, IsPartAt, IsVisibleAt};
+    ghost use Rattle.upload_book.specs.inside.Ids.{AreBelow};
+    ghost use Rattle.upload_book.specs.inside.Kept.{stored_tenant_of, AreInOrder, HasUploadRoom, IsPartAt, IsVisibleAt};
 
     /// The part of a tenant that has no upload yet, with room for so many. All memory for them is taken here, but
     /// for the lists of their blocks; the error is that there was too little.
@@ -43,8 +44,9 @@ impl StoredTenant {
     }
 
     /// The place of the upload that a request for `id` sees at `now`. It is Unknown where the id was
-    /// never given, and Gone where its upload has ended or expired. It goes over the uploads once.
+    /// never given, and Gone where its upload has ended or expired.
     pub(crate) fn visible(&self, id: u64, now: Moment) -> Result<usize, Refusal>
+        requires { AreBelow self.now.next self.now.uploads.items }
         ensures place { IfOk result (λ i. IsVisibleAt (stored_tenant_of self.now) id now i) }
         ensures refused { IfErr result
             (λ e. visible_in (λ u. u.expires) (stored_tenant_of self.now) id now ≡ Err e) }
@@ -61,6 +63,7 @@ impl StoredTenant {
     /// The place of the upload that a part of a concatenation names, where it is a partial one that a request
     /// sees at `now`.
     pub(crate) fn part(&self, named: Option<u64>, now: Moment) -> Option<usize>
+        requires { AreBelow self.now.next self.now.uploads.items }
         ensures place { IfSome result (λ i. IsPartAt (stored_tenant_of self.now) named now i) }
         ensures none { IfNone result (part_kept (stored_tenant_of self.now) now named ≡ None) }
     {
@@ -72,11 +75,14 @@ impl StoredTenant {
         }
     }
 
-    /// The place of the upload with this id, if it is still there.
+    /// The place of the upload with this id, if it is still there. It is found by halving.
     pub(crate) fn place(&self, id: u64) -> Option<usize>
+        requires { AreBelow self.now.next self.now.uploads.items }
         ensures { result ≡ position (λ e. e.id == id) self.now.uploads.items }
     {
-        self.uploads.iter().position(|upload| upload.id() == id)
+        self.uploads
+            .binary_search_by_key(&id, |upload| upload.id())
+            .ok()
     }
 
     /// The body of the first of the tenant's pieces that has this origin, where there is one.
@@ -86,18 +92,32 @@ impl StoredTenant {
         first_chain(&self.uploads, origin)
     }
 
-    /// Whether a piece of an upload before a place, or a piece before one of the upload there, has this origin.
+    /// Whether a piece of an upload before a place, or a piece before one of the upload there, has this origin. It goes
+    /// over the uploads from the one of this origin on.
     pub(crate) fn stands_before(&self, place: usize, piece: usize, origin: u64) -> bool
+        requires order { AreInOrder (stored_tenant_of self.now) }
         requires there { place < length self.now.uploads.items }
         requires pieces { (d : Entry stored.StoredUpload) → piece ≤ length (get_or self.now.uploads.items place d).kept.pieces }
         ensures { (d : Entry stored.StoredUpload) → result ≡ is_some (chain_from
             (flat_map (λ e. e.kept.pieces) (take place self.now.uploads.items)
             ++ take piece (get_or self.now.uploads.items place d).kept.pieces) origin) }
     {
-        match first_chain(&self.uploads[..place], origin) {
+        match first_chain(self.since(place, origin), origin) {
             Some(_) => true,
             None => self.uploads[place].stands_before(piece, origin),
         }
+    }
+
+    // The uploads before a place that stand under this id or a later one. No other has a piece of this origin.
+    fn since(&self, place: usize, origin: u64) -> &[StoredUpload]
+        requires order { AreInOrder (stored_tenant_of self.now) }
+        requires there { place < length self.now.uploads.items }
+        ensures { chain_from (flat_map (λ e. e.kept.pieces) result.now) origin
+            ≡ chain_from (flat_map (λ e. e.kept.pieces) (take place self.now.uploads.items)) origin }
+    {
+        let before = &self.uploads[..place];
+        let first = before.partition_point(|upload| upload.id() < origin);
+        &before[first..]
     }
 }
 

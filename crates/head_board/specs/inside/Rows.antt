@@ -1,6 +1,5 @@
 -- How a table keeps the rows of a tenant.
-use Rattle.std.specs.Prelude.{◌≡◌, ◌+◌, ◌<◌, ◌≤◌, ℕ, ◌==◌, Bool, true, false, List, map, vec_len, vec_capacity, All, Option, Some, None, min, ⊤}
-use Rattle.std.specs.List.Sorted.{IsStrictlyIncreasing}
+use Rattle.std.specs.Prelude.{◌≡◌, ◌+◌, ◌≤◌, ℕ, ◌==◌, Bool, true, false, List, map, vec_len, vec_capacity, All, Option, Some, None, min, ⊤}
 use Rattle.head_board.specs.declared.head_rows.HeadRows.TheInside.{Inside}
 use Rattle.upload_book.specs.declared.head_note.Growth.{Growth}
 use Rattle.upload_book.specs.declared.head_row.HeadRow.{HeadRow}
@@ -8,6 +7,7 @@ use Rattle.upload_book.specs.Expiry.{has_expired}
 use Rattle.upload_book.specs.HeadNotes.{row_grown}
 use Rattle.upload_book.specs.Heads.{HeadPart}
 use Rattle.upload_book.specs.TenantBook.{Entry, kept_in, with_changed}
+use Rattle.upload_book.specs.inside.Ids.{AreBelow}
 
 -- the tenant's part, and for how many rows there is room
 pub record Rows : Type 0 where
@@ -30,11 +30,6 @@ IsGrown before id growth false after = (kept_in before.part.uploads id ≡ None)
 -- the ids of rows
 abbrev pub row_ids : List (Entry HeadRow) → List ℕ
 row_ids rows = map {A = Entry HeadRow} {B = ℕ} (λ e. e.id) rows
-
--- rows stand under ids that ascend, below the next one
-pub record AreBelow (next : ℕ) (rows : List (Entry HeadRow)) : Type 0 where
-  pub ascending : IsStrictlyIncreasing (row_ids rows)
-  pub below : All (λ (e : Entry HeadRow). e.id < next) rows
 
 -- the earlier of two ends, where there are any
 abbrev pub earlier : Option ℕ → Option ℕ → Option ℕ

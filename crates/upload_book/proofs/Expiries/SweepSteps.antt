@@ -18,15 +18,15 @@ pub record IsSweptTo (b left : PlainBook) (now uploads blocks : ℕ) : Type 0 wh
   pub uploads_ended : (sweep_answer b now).uploads ≡ (sweep_answer left now).uploads + uploads
   pub blocks_freed : swept_blocks b now ≡ swept_blocks left now + blocks
   pub book : book_after_sweep left now ≡ book_after_sweep b now
-  pub few : (sweep_answer b now).uploads ≤ 1024
+  pub few : (sweep_answer b now).uploads ≤ 1048576
   pub small : swept_blocks b now ≤ 4294967295
 
 -- the tenants have few uploads,
-uploads-few : (b : PlainBook) → IsLawful b → sum_by (λ (part : TenantBook). length part.uploads) b.tenants ≤ 1024
+uploads-few : (b : PlainBook) → IsLawful b → sum_by (λ (part : TenantBook). length part.uploads) b.tenants ≤ 1048576
 uploads-few b lawful =
-    let each : All (λ (part : TenantBook). length part.uploads ≤ 64) b.tenants =
+    let each : All (λ (part : TenantBook). length part.uploads ≤ 65536) b.tenants =
     λ k d within. omega (arith, (lawful.tenants k d within).few, uploads-within b.settings lawful.settings) in
-    omega (arith, sum_by-le (λ (part : TenantBook). length part.uploads) 64 b.tenants each, tenants-few b lawful)
+    omega (arith, sum_by-le (λ (part : TenantBook). length part.uploads) 65536 b.tenants each, tenants-few b lawful)
 
 -- and pay few blocks
 blocks-few : (b : PlainBook) → IsLawful b → sum_by (charge_in b.settings.numbers) b.tenants ≤ 4294967295

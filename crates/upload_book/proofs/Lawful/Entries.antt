@@ -15,7 +15,7 @@ use Rattle.upload_book.specs.Expiry.{has_expired}
 use Rattle.upload_book.specs.TenantBook.{Entry, TenantPart, kept_in, with_kept, with_changed, visible, visible_in, is_given}
 
 -- the test of two numbers that differ
-eqb-other : (a b : ℕ) → a ≢ b → eqb a b ≡ false
+pub eqb-other : (a b : ℕ) → a ≢ b → eqb a b ≡ false
 eqb-other a b other = elim (eqb_tells a b) [ inl same ↦ absurd (other same.1) | inr differs ↦ differs.0 ]
 
 module _ {K : Type 0} where

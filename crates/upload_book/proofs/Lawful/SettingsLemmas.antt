@@ -34,7 +34,8 @@ sound-within Narrow s h =
       wider s.numbers.block_size 65536 1048576 (omega arith) holds.1.0,
       larger (s.numbers.blocks * s.numbers.block_size) 1073741824 17592186044416 (omega arith) holds.1.1.0,
       wider s.numbers.max_size 16777216 1099511627776 (omega arith) holds.1.1.1.1.0,
-    ) (rw (holds.0, holds.1.0, holds.1.1.0, holds.1.1.1.1.0) at h)
+      wider s.numbers.uploads 64 65536 (omega arith) holds.1.1.1.1.1.0,
+    ) (rw (holds.0, holds.1.0, holds.1.1.0, holds.1.1.1.1.0, holds.1.1.1.1.1.0) at h)
   where
     wider : (n most more : ℕ) → most ≤ more → is_outside n most ≡ false → is_outside n more ≡ false
     wider n most more less test = grind (arith, nat_tests)
@@ -84,11 +85,11 @@ block_size-some s h =
     some n most test = grind (arith, nat_tests)
 
 -- a tenant has few uploads
-pub uploads-within : (s : Settings) → AreSound s → s.numbers.uploads ≤ 64
+pub uploads-within : (s : Settings) → AreSound s → s.numbers.uploads ≤ 65536
 uploads-within s h =
     let tests = number_tests Wide s.numbers ++ tenant_tests s.numbers.blocks s.tenants in
     let holds : NoneHolds tests = none_holds tests h in
-    within s.numbers.uploads 64 holds.1.1.1.1.1.0
+    within s.numbers.uploads 65536 holds.1.1.1.1.1.0
 
 -- there are few tenants
 pub tenants-within : (s : Settings) → AreSound s → length s.tenants ≤ 16

@@ -1,8 +1,9 @@
 -- The segments of an upload as pieces of a snapshot: each brings its bytes unless a piece before it has its origin.
-use Rattle.std.proofs.Common.{◌≡◌, ℕ, zero, suc, ◌<◌, ◌≤◌, Bool, true, false, cond, List, [], ◌∷◌, ◌++◌, length, get_or, take, Option, Some, None, is_some, option_map, refl, sym, ap, ap₂, subst, ◌∙◌, arith, append_assoc, append-nil}
-use Rattle.std.specs.List.{All, Contains, flat_map, slice_get}
+use Rattle.std.proofs.Common.{◌≡◌, ℕ, zero, suc, ◌<◌, ◌≤◌, Bool, true, false, cond, List, [], ◌∷◌, ◌++◌, ltb, length, get_or, drop, take, Option, Some, None, is_some, option_map, refl, sym, ap, ap₂, subst, ◌∙◌, arith, append_assoc, append-nil}
+use Rattle.std.specs.List.{All, AllWithin, Contains, flat_map, slice_get}
+use Rattle.std.proofs.lemmas.Bool.Decides.{nat_tests}
 use Rattle.std.proofs.lemmas.List.{get_or-map, get_or_default, length-map, map-append, take-map}
-use Rattle.std.proofs.lemmas.List.Elements.{All-take}
+use Rattle.std.proofs.lemmas.List.Elements.{All-head, All-tail, All-take}
 use Rattle.std.proofs.lemmas.Option.{slice_get-get_or, slice_get_past}
 use Rattle.block_pool.specs.Blocks.{Blocks}
 use Rattle.block_bodies.specs.Bodies.{Chain, IsBodyOf, content_of}
@@ -12,14 +13,15 @@ use Rattle.upload_book.specs.declared.pieces.Piece.{Piece}
 use Rattle.upload_book.specs.inside.Back.{row_back}
 use Rattle.upload_book.specs.inside.FinalBack.{chain_from}
 use Rattle.upload_book.specs.inside.KeptUpload.{kept_at}
-use Rattle.upload_book.specs.inside.Pieces.{AreBodies, HasOwnPiece, ReadsWhole, no_chain}
+use Rattle.upload_book.specs.inside.Pieces.{AreBodies, HasNoLaterPiece, HasOwnPiece, ReadsWhole, no_chain}
 use Rattle.upload_book.specs.snapshot.Restore.{bytes_from, sent_in, sent_of}
 use Rattle.upload_book.specs.snapshot.Restored.{RestoredSegment, RestoredUpload}
 use Rattle.upload_book.specs.snapshot.Snapshot.{segments_kept, upload_kept}
 use Rattle.upload_book.specs.Stored.{StoredTenant, StoredUpload, entry_of, part_of, pieces_of, upload_of}
 use Rattle.upload_book.specs.TenantBook.{Entry}
 use Rattle.upload_book.specs.Upload.{Upload, head_row_of}
-use Rattle.upload_book.proofs.Restoring.FinalFound.{bytes_from-chain, sent-kept, sent-pieces, sent_piece, sent_pieces}
+use Rattle.upload_book.proofs.Charge.InUse.{Contains-first, Contains-later}
+use Rattle.upload_book.proofs.Restoring.FinalFound.{bytes_from-chain, chain_from-later, sent-kept, sent-pieces, sent_piece, sent_pieces}
 use Rattle.upload_book.proofs.Store.Pieces.{Contains-entry, IsEntry, kept_pieces}
 
 -- a segment as it is put back, where one of its origin stands or not
@@ -151,3 +153,23 @@ kept-past p t place past =
 -- what a HEAD tells of it is its row
 pub row-is : (p : Blocks) (t : StoredTenant) (place : ℕ) (e : Entry StoredUpload) (row : HeadRow) → IsEntry t place e → row ≡ head_row_of (upload_of p e.kept) → row ≡ row_back (kept_at p t place) row.offset
 row-is p t place e row entry told = told ∙ ap₂ row_back (sym (kept_at-is p t place e entry)) (ap (λ (r : HeadRow). r.offset) (sym told))
+
+-- pieces of earlier origins have none of this one
+none-later : (pieces : List Piece) (origin : ℕ) → ((x : Piece) → Contains pieces x → x.origin < origin) → chain_from pieces origin ≡ None
+none-later [] origin earlier = refl
+none-later (x ∷ pieces) origin earlier =
+    let here : x.origin < origin = earlier x (Contains-first x pieces) in
+    let rest : chain_from pieces origin ≡ None = none-later pieces origin (λ y c. earlier y (Contains-later x y pieces c)) in
+    grind (arith, nat_tests)
+
+-- the pieces of an origin stand behind all uploads before it
+pub chain_from-drop : (uploads : List (Entry StoredUpload)) (first origin : ℕ) → All HasNoLaterPiece uploads → AllWithin (λ (e : Entry StoredUpload). ltb e.id origin ≡ true) uploads 0 first
+    → chain_from (flat_map kept_pieces (drop first uploads)) origin ≡ chain_from (flat_map kept_pieces uploads) origin
+chain_from-drop [] zero origin none before = refl
+chain_from-drop [] (suc first) origin none before = refl
+chain_from-drop (e ∷ uploads) zero origin none before = refl
+chain_from-drop (e ∷ uploads) (suc first) origin none before =
+    let early : e.id < origin = (let test : ltb e.id origin ≡ true = before 0 e (omega arith) (omega arith) in grind (arith, nat_tests)) in
+    let here : HasNoLaterPiece e = All-head HasNoLaterPiece e uploads none in
+    chain_from-drop uploads first origin (All-tail HasNoLaterPiece e uploads none) (λ k d low high. before (suc k) d (omega arith) (omega arith))
+    ∙ sym (chain_from-later e.kept.pieces (flat_map kept_pieces uploads) origin (none-later e.kept.pieces origin (λ x c. omega (arith, early, here x c))))

@@ -197,6 +197,6 @@ MayHold-copies p old copies on are few = record {
       omega arith;
 }
 
--- so with at most 64 uploads of at most 32 pieces, and at most 32 copies
-pub MayHold-join : (p : Blocks) (old : StoredTenant) (copies : List Piece) → IsStoredOn p old → AreCopies old copies → length old.uploads ≤ 64 → All (λ e. length e.kept.pieces ≤ 32) old.uploads → length copies ≤ 32 → MayHold p (placed_in copies)
+-- so with at most 65,536 uploads of at most 32 pieces, and at most 32 copies
+pub MayHold-join : (p : Blocks) (old : StoredTenant) (copies : List Piece) → IsStoredOn p old → AreCopies old copies → length old.uploads ≤ 65536 → All (λ e. length e.kept.pieces ≤ 32) old.uploads → length copies ≤ 32 → MayHold p (placed_in copies)
 MayHold-join p old copies on are uploads pieces few = MayHold-copies p old copies on are (omega (arith, pieces-few old 32 pieces))

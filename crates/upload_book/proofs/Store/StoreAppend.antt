@@ -12,7 +12,7 @@ use Rattle.upload_book.specs.Charge.{charge_with}
 use Rattle.upload_book.specs.declared.head_row.Kind.TheVariants.{Final}
 use Rattle.upload_book.specs.declared.stored_tenant.StoredTenant.{StoredTenant as KeptTenant}
 use Rattle.upload_book.specs.declared.block_store.BlockStore.TheInside.{Inside}
-use Rattle.upload_book.specs.inside.Kept.{stored_tenant_of, store_of, HasUploadRoom, IsKept}
+use Rattle.upload_book.specs.inside.Kept.{stored_tenant_of, store_of, AreInOrder, HasUploadRoom, IsKept}
 use Rattle.upload_book.specs.inside.Places as places
 use Rattle.upload_book.specs.BlockStore.{BlockStore, plain_in, part_at, stored_tenant_at}
 use Rattle.upload_book.specs.inside.Places.{with_chain, with_head, with_upload, with_bytes}
@@ -22,6 +22,7 @@ use Rattle.upload_book.specs.inside.Pieces.{own_chain, ReadsWhole, HasOwnPiece}
 use Rattle.upload_book.specs.TenantBook.{Entry}
 use Rattle.upload_book.specs.Upload.{offset_of}
 use Rattle.upload_book.proofs.Charge.InUse.{blocks_in_use, Contains-cases, Contains-none, places-within}
+use Rattle.upload_book.proofs.Store.InOrder.{AreInOrder-set, HasNoLaterPiece-own}
 use Rattle.upload_book.proofs.Store.AloneLemmas.{alone-store}
 use Rattle.upload_book.proofs.Store.OwnLemmas.{HasOwnPiece-from, own-kept}
 use Rattle.upload_book.proofs.Store.Pieces.{IsEntry, with_entry, without, Contains-with_entry, Contains-without}
@@ -30,7 +31,7 @@ use Rattle.upload_book.proofs.Store.PlainSteps.{upload-put}
 use Rattle.upload_book.proofs.Charge.PriceLemmas.{blocks_between-adds}
 use Rattle.upload_book.proofs.Store.PutLemmas.{own_piece, own-contained, IsAlone, own-body, own-last, HoldsPieces-put, put-charge}
 use Rattle.upload_book.proofs.Store.StoredTenants.{IsStoredOn-stored_tenant}
-use Rattle.upload_book.proofs.Store.StoreLemmas.{charges-kept, with_stored_tenant, with_stored_tenant-part, IsPart, IsStoredTenant-part, stored_tenant_at-part, own-part, reads-part, charge-part, charge_with-part, IsKept-with_stored_tenant, plain_in-with_stored_tenant}
+use Rattle.upload_book.proofs.Store.StoreLemmas.{charges-kept, with_stored_tenant, with_stored_tenant-part, IsPart, IsStoredTenant-part, stored_tenant_at-part, own-part, order-part, reads-part, charge-part, charge_with-part, IsKept-with_stored_tenant, plain_in-with_stored_tenant}
 
 -- an upload that is not final is read in a part, and bytes are put at its end
 pub record PutsIn (v : Inside) (t i : ℕ) (old : KeptTenant) (e : Entry StoredUpload) (bytes : List ℕ) (q : Blocks) (y : Chain) : Type 0 where
@@ -114,6 +115,7 @@ module _ (v : Inside) (t i : ℕ) (old changed : KeptTenant) (e : Entry StoredUp
       (put-keeps_elsewhere v.pool (store_of v).stored_tenants t (stored_tenant_of old) i e x bytes q y kept.stored part puts.entry own puts.puts)
       (subst (λ (s : StoredTenant). All HasOwnPiece s.uploads) (sym stored_tenant) (All-set HasOwnPiece (stored_tenant_of old).uploads i after (HasOwnPiece-from after y refl) (own-part v t old kept puts.part)))
       (subst (λ (s : StoredTenant). ReadsWhole q (pieces_of s)) (sym stored_tenant) put-reads)
+      (subst AreInOrder (sym stored_tenant) (AreInOrder-set (stored_tenant_of old) i e after puts.entry refl (HasNoLaterPiece-own after (own_piece e.id y) refl refl) (order-part v t old kept puts.part)))
       (omega (
         arith,
         is.charge,

@@ -15,7 +15,7 @@ use Rattle.upload_book.specs.declared.pieces.Piece.{Piece}
 use Rattle.upload_book.specs.declared.ready.ReadyBack.{ReadyBack}
 use Rattle.upload_book.specs.declared.stored_tenant.StoredTenant.{StoredTenant as KeptTenant}
 use Rattle.upload_book.specs.inside.FinalBack.{BringsTo, IsRoomFor, MayBringEach, brought_in, final_named, segment_len, sent_len}
-use Rattle.upload_book.specs.inside.Kept.{stored_tenant_of, store_of, HasUploadRoom, IsKept}
+use Rattle.upload_book.specs.inside.Kept.{stored_tenant_of, store_of, AreInOrder, HasUploadRoom, IsKept}
 use Rattle.upload_book.specs.inside.Pieces.{HasOwnPiece, ReadsWhole, final_of}
 use Rattle.upload_book.specs.inside.Places.{MayKeep}
 use Rattle.upload_book.specs.snapshot.Restore.{sent_back, sent_in, upload_back}
@@ -25,13 +25,14 @@ use Rattle.upload_book.specs.TenantBook.{Entry, TenantBook, with_new}
 use Rattle.upload_book.specs.Upload.{Upload}
 use Rattle.upload_book.proofs.Charge.InUse.{Contains-first, Contains-later}
 use Rattle.upload_book.proofs.Restoring.FinalFound.{sent-pieces, sent_pieces}
+use Rattle.upload_book.proofs.Store.InOrder.{AreInOrder-push}
 use Rattle.upload_book.proofs.Store.BackGrows.{AreHad, AreHad-to, AreToHave, MayBring-next, grown, own-grown}
 use Rattle.upload_book.proofs.Store.JoinLemmas.{pieces-few}
 use Rattle.upload_book.proofs.Store.OwnLemmas.{HasOwnPiece-final}
 use Rattle.upload_book.proofs.Store.PlainStoredTenants.{KeepBytes, part-with_new}
 use Rattle.upload_book.proofs.Store.StoreAppend.{free-read}
 use Rattle.upload_book.proofs.Store.StoredTenants.{HoldsPieces-changed, IsStoredOn-stored_tenant, IsStoredTenant, charge-changed, places_on-held}
-use Rattle.upload_book.proofs.Store.StoreLemmas.{with_stored_tenant, IsPart, IsStoredTenant-part, stored_tenant_at-part, own-part, reads-part, charge-part, IsKept-with_stored_tenant, plain_in-with_stored_tenant}
+use Rattle.upload_book.proofs.Store.StoreLemmas.{with_stored_tenant, IsPart, IsStoredTenant-part, stored_tenant_at-part, own-part, order-part, reads-part, charge-part, IsKept-with_stored_tenant, plain_in-with_stored_tenant}
 
 -- pieces that read whole are as long as their bytes
 sent-lens : (q : Blocks) (pieces : List Piece) → ReadsWhole q pieces → sent_len (sent_pieces q pieces) ≡ pieces_len pieces
@@ -62,7 +63,7 @@ module _ (v : Inside) (t : ℕ) (old : KeptTenant) (r : ReadyBack) (kept : IsKep
   standing = ap (λ (s : StoredTenant). sent_in (part_of v.pool s).uploads) (stored_tenant_at-part v t old part) ∙ sent-pieces v.pool was.uploads (own-part v t old kept part)
 
   -- there are few
-  pieces-most : length (pieces_of was) ≤ 2048
+  pieces-most : length (pieces_of was) ≤ 2097152
   pieces-most =
       let here = stored_tenant_at-part v t old part in
       let each : All (λ (e : Entry StoredUpload). length e.kept.pieces ≤ 32) was.uploads = λ k d l.
@@ -70,7 +71,7 @@ module _ (v : Inside) (t : ℕ) (old : KeptTenant) (r : ReadyBack) (kept : IsKep
       let entry : get_or (part_of v.pool was).uploads k (entry_of v.pool d) ≡ entry_of v.pool e = get_or-map (entry_of v.pool) was.uploads k d (entry_of v.pool d) l in
       let few : All (λ (e : Entry Upload). length e.kept.segments ≤ 32) (part_of v.pool was).uploads = subst (λ (s : StoredTenant). All (λ (e : Entry Upload). length e.kept.segments ≤ 32) (part_of v.pool s).uploads) here may.few.segments in
       omega (arith, few k (entry_of v.pool d) (omega (arith, l, length-map was.uploads (entry_of v.pool))), ap (λ (e : Entry Upload). length e.kept.segments) entry, length-map e.kept.pieces (λ (x : Piece). content_of v.pool x.chain)) in
-      let uploads : length was.uploads ≤ 64 = omega (arith, may.few.uploads, ap (λ (s : StoredTenant). length (part_of v.pool s).uploads) here, length-map was.uploads (entry_of v.pool)) in
+      let uploads : length was.uploads ≤ 65536 = omega (arith, may.few.uploads, ap (λ (s : StoredTenant). length (part_of v.pool s).uploads) here, length-map was.uploads (entry_of v.pool)) in
       omega (arith, uploads, pieces-few was 32 each)
 
   to-have : AreToHave v.pool was segments
@@ -172,6 +173,7 @@ module _ (v : Inside) (t : ℕ) (old : KeptTenant) (r : ReadyBack) (kept : IsKep
           elsewhere
           (subst (λ (s : StoredTenant). All HasOwnPiece s.uploads) (sym stored_tenant) (All-push HasOwnPiece was.uploads (record { id = old.next; kept = final_of (final_named r.upload) pieces }) (own-part v t old kept part) (HasOwnPiece-final (record { id = old.next; kept = final_of (final_named r.upload) pieces }) refl)))
           (subst (λ (s : StoredTenant). ReadsWhole q (pieces_of s)) (sym stored_tenant) had.grows.reads)
+          (subst AreInOrder (sym stored_tenant) (AreInOrder-push was (final_of (final_named r.upload) pieces) (λ x c. let given = (had.grows.changes.pieces.each x (own-grown was (final_named r.upload) pieces x c)).given in omega (arith, given)) (order-part v t old kept part)))
           (charge ∙ ap (λ (n : ℕ). n + taken) (charge-part v t old kept part) ∙ sym pays ∙ ap (charge_on v.pool.block_size) (sym stored_tenant))
           room
 

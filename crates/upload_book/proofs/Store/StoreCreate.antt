@@ -167,6 +167,7 @@ module _ (v : Inside) (t : ℕ) (old changed : KeptTenant) (new : NewUpload) (by
     stored = rw (pool, items) is.stored;
     own = rw items is.own;
     reads = rw (pool, items) is.reads;
+    order = rw items is.order;
     size = rw pool is.size;
     blocks = rw pool is.blocks;
     charges = rw (pool, items) is.charges;

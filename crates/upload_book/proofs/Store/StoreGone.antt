@@ -7,18 +7,19 @@ use Rattle.block_bodies.specs.Changes.{GivesBack}
 use Rattle.upload_book.specs.Charge.{charge_with}
 use Rattle.upload_book.specs.declared.stored_tenant.StoredTenant.{StoredTenant as KeptTenant}
 use Rattle.upload_book.specs.declared.block_store.BlockStore.TheInside.{Inside}
-use Rattle.upload_book.specs.inside.Kept.{stored_tenant_of, store_of, HasUploadRoom, IsKept}
+use Rattle.upload_book.specs.inside.Kept.{stored_tenant_of, store_of, AreInOrder, HasUploadRoom, IsKept}
 use Rattle.upload_book.specs.BlockStore.{plain_in, part_at}
 use Rattle.upload_book.specs.inside.Places.{without_upload}
 use Rattle.upload_book.specs.Stored.{StoredTenant, StoredUpload, part_of, pieces_of, placed_in, charge_on, HoldsPieces}
 use Rattle.upload_book.specs.inside.Pieces.{ReadsWhole, HasOwnPiece}
 use Rattle.upload_book.specs.TenantBook.{Entry}
+use Rattle.upload_book.proofs.Store.InOrder.{AreInOrder-remove}
 use Rattle.upload_book.proofs.Store.GoneLemmas.{gone-held, HoldsPieces-gone, gone-charge}
 use Rattle.upload_book.proofs.Charge.InUse.{places-within}
 use Rattle.upload_book.proofs.Store.Pieces.{IsEntry, without, All-remove, Contains-without}
 use Rattle.upload_book.proofs.Store.PlainStoredTenants.{content-same, gone-keeps, gone-keeps_elsewhere, part-without}
 use Rattle.upload_book.proofs.Store.StoredTenants.{IsStoredOn-stored_tenant}
-use Rattle.upload_book.proofs.Store.StoreLemmas.{with_stored_tenant, with_stored_tenant-part, IsPart, IsStoredTenant-part, stored_tenant_at-part, own-part, reads-part, charge-part, charge_with-part, IsKept-with_stored_tenant, plain_in-with_stored_tenant}
+use Rattle.upload_book.proofs.Store.StoreLemmas.{with_stored_tenant, with_stored_tenant-part, IsPart, IsStoredTenant-part, stored_tenant_at-part, own-part, order-part, reads-part, charge-part, charge_with-part, IsKept-with_stored_tenant, plain_in-with_stored_tenant}
 
 -- an upload is read in a part, and its blocks are given back
 pub record GivesUp (v : Inside) (t i : ℕ) (old : KeptTenant) (e : Entry StoredUpload) (freed : ℕ) (q : Blocks) : Type 0 where
@@ -64,6 +65,7 @@ IsKept-given v t i old changed e freed q kept gives is =
     (gone-keeps_elsewhere v.pool (store_of v).stored_tenants t (stored_tenant_of old) i e freed q kept.stored part gives.entry gives.gives)
     (subst (All HasOwnPiece) (sym is.uploads) (All-remove HasOwnPiece old.uploads.items i (own-part v t old kept gives.part)))
     (subst (λ (s : StoredTenant). ReadsWhole q (pieces_of s)) (sym stored_tenant) reads)
+    (subst AreInOrder (sym stored_tenant) (AreInOrder-remove (stored_tenant_of old) i e gives.entry (order-part v t old kept gives.part)))
     (omega (arith, is.charge, given-charge v t i old e freed q kept gives, ap (charge_on v.pool.block_size) stored_tenant))
     is.room
 

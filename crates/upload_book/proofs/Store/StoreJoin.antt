@@ -15,7 +15,7 @@ use Rattle.upload_book.specs.declared.pieces.Piece.{Piece}
 use Rattle.upload_book.specs.declared.pieces.UnheldPiece.{UnheldPiece}
 use Rattle.upload_book.specs.declared.stored_tenant.StoredTenant.{StoredTenant as KeptTenant}
 use Rattle.upload_book.specs.declared.block_store.BlockStore.TheInside.{Inside}
-use Rattle.upload_book.specs.inside.Kept.{stored_tenant_of, store_of, HasUploadRoom, IsKept}
+use Rattle.upload_book.specs.inside.Kept.{stored_tenant_of, store_of, AreInOrder, HasUploadRoom, IsKept}
 use Rattle.upload_book.specs.NewFinal.{NewFinal}
 use Rattle.upload_book.specs.BlockStore.{BlockStore, Joins, plain_in, part_at, stored_tenant_at, entry_at, pieces_named as pieces_at, rows_at, no_upload}
 use Rattle.upload_book.specs.inside.Places.{AreFew}
@@ -24,6 +24,7 @@ use Rattle.upload_book.specs.inside.Pieces.{as_piece, final_of, own_chain, HasOw
 use Rattle.upload_book.specs.TenantBook.{Entry, with_new}
 use Rattle.upload_book.specs.Upload.{Upload, content_of as upload_content_of, head_row_of, offset_of}
 use Rattle.upload_book.proofs.Charge.InUse.{Contains-first, Contains-later}
+use Rattle.upload_book.proofs.Store.InOrder.{AreInOrder-push}
 use Rattle.upload_book.proofs.Store.JoinLemmas.{AreCopies, AreCopies-from, Contains-with_new, HoldsPieces-join, MayHold-join, join-charge}
 use Rattle.upload_book.proofs.Store.OwnLemmas.{HasOwnPiece-final, parts-join}
 use Rattle.upload_book.proofs.Steps.PartLemmas.{ArePartsOf-named, parts-plain, pieces-named}
@@ -31,7 +32,7 @@ use Rattle.upload_book.proofs.Store.Pieces.{flat_map-contains, kept_pieces}
 use Rattle.upload_book.proofs.Store.PlainStoredTenants.{content-own, content-same, part-with_new, segments-join}
 use Rattle.upload_book.proofs.Store.PutLemmas.{own_piece}
 use Rattle.upload_book.proofs.Store.StoredTenants.{IsStoredOn-stored_tenant}
-use Rattle.upload_book.proofs.Store.StoreLemmas.{with_stored_tenant, with_stored_tenant-part, part_within, IsPart, IsStoredTenant-part, stored_tenant_at-part, own-part, reads-part, charge-part, charge_with-part, IsKept-with_stored_tenant, plain_in-with_stored_tenant}
+use Rattle.upload_book.proofs.Store.StoreLemmas.{with_stored_tenant, with_stored_tenant-part, part_within, IsPart, IsStoredTenant-part, stored_tenant_at-part, own-part, order-part, reads-part, charge-part, charge_with-part, IsKept-with_stored_tenant, plain_in-with_stored_tenant}
 
 -- some uploads have their own piece each, which reads whole
 pub record AreOwn (p : Blocks) (entries : List (Entry StoredUpload)) : Type 0 where
@@ -193,11 +194,13 @@ module _ (v : Inside) (t : ℕ) (old changed : KeptTenant) (new : NewFinal) (now
   pub IsKept-joined : IsKept (with_stored_tenant v q t changed)
   IsKept-joined =
       let part = IsStoredTenant-part v t old joins.part in
+      let on = IsStoredOn-stored_tenant v.pool (store_of v).stored_tenants t (stored_tenant_of old) kept.stored part in
       IsKept-with_stored_tenant v q t old changed kept joins.part joins.holds.sizes
       (subst (λ (s : StoredTenant). HoldsPieces q (set (store_of v).stored_tenants t s)) (sym stored_tenant) (HoldsPieces-join v.pool (store_of v).stored_tenants t (stored_tenant_of old) final q kept.stored part copies joins.holds))
       (λ k other there differs b some. joins.holds.bytes b)
       (subst (λ (s : StoredTenant). All HasOwnPiece s.uploads) (sym stored_tenant) (All-push HasOwnPiece (stored_tenant_of old).uploads (record { id = old.next; kept = final }) (own-part v t old kept joins.part) (HasOwnPiece-final (record { id = old.next; kept = final }) refl)))
       (subst (λ (s : StoredTenant). ReadsWhole q (pieces_of s)) (sym stored_tenant) joined-reads)
+      (subst AreInOrder (sym stored_tenant) (AreInOrder-push (stored_tenant_of old) final (λ x c. let z = copies x c in omega (arith, (on.pieces.each z.0 z.1).given, ap (λ (s : Segment). s.origin) z.2)) (order-part v t old kept joins.part)))
       (is.charge ∙ charge-part v t old kept joins.part ∙ sym (join-charge v.pool (store_of v).stored_tenants t (stored_tenant_of old) final q kept.stored part copies joins.holds) ∙ ap (charge_on v.pool.block_size) (sym stored_tenant))
       is.room
 

@@ -13,9 +13,10 @@ use Rattle.upload_book.specs.Charge.{charge_with}
 use Rattle.upload_book.specs.declared.head_row.Kind.TheVariants.{Final}
 use Rattle.upload_book.specs.declared.stored_tenant.StoredTenant.{StoredTenant as KeptTenant}
 use Rattle.upload_book.specs.declared.block_store.BlockStore.TheInside.{Inside}
-use Rattle.upload_book.specs.inside.Kept.{stored_tenant_of, store_of, HasUploadRoom, IsKept}
+use Rattle.upload_book.specs.inside.Kept.{stored_tenant_of, store_of, AreInOrder, HasUploadRoom, IsKept}
 use Rattle.upload_book.specs.BlockStore.{BlockStore, plain_in, part_at, stored_tenant_at, entry_at, upload_at, no_upload}
 use Rattle.upload_book.specs.Stored.{StoredTenant, StoredUpload, part_of, upload_of, pieces_of, places_on, charge_on, HoldsPieces}
+use Rattle.upload_book.specs.inside.Ids.{AreBelow}
 use Rattle.upload_book.specs.inside.Pieces.{AreBodies, HasOwnPiece, ReadsWhole}
 use Rattle.upload_book.specs.TenantBook.{TenantBook, Entry, opening_part}
 use Rattle.upload_book.specs.Upload.{Upload}
@@ -58,6 +59,16 @@ pub own-part : (v : Inside) (t : ℕ) (old : KeptTenant) → IsKept v → IsPart
 own-part v t old kept is =
     let stored_tenant = IsStoredTenant-part v t old is in
     subst (λ (s : StoredTenant). All HasOwnPiece s.uploads) (sym stored_tenant.read) (kept.own t (stored_tenant_of old) stored_tenant.within)
+
+-- it is in order,
+pub order-part : (v : Inside) (t : ℕ) (old : KeptTenant) → IsKept v → IsPart v t old → AreInOrder (stored_tenant_of old)
+order-part v t old kept is =
+    let stored_tenant = IsStoredTenant-part v t old is in
+    subst AreInOrder (sym stored_tenant.read) (kept.order t (stored_tenant_of old) stored_tenant.within)
+
+-- so its ids ascend, as a call reads it,
+pub ids-read : (v : Inside) (t : ℕ) (old : KeptTenant) → IsKept v → t < length v.stored_tenants.items → old ≡ get_or v.stored_tenants.items t old → AreBelow old.next old.uploads.items
+ids-read v t old kept within read = (order-part v t old kept (record { within = within; read = read })).ids
 
 -- its pieces read whole,
 pub reads-part : (v : Inside) (t : ℕ) (old : KeptTenant) → IsKept v → IsPart v t old → ReadsWhole v.pool (pieces_of (stored_tenant_of old))
@@ -111,14 +122,15 @@ All-stored_tenants P stored_tenants t s here others k d within =
 pub IsKept-with_stored_tenant : (v : Inside) (q : Blocks) (t : ℕ) (old changed : KeptTenant) → IsKept v → IsPart v t old → SameSizes v.pool q
     → HoldsPieces q (set (store_of v).stored_tenants t (stored_tenant_of changed))
     → ((k : ℕ) (other : StoredTenant) → IsStoredTenant (store_of v).stored_tenants k other → k ≢ t → KeepBytes v.pool q (λ b. places_on b other))
-    → All HasOwnPiece (stored_tenant_of changed).uploads → ReadsWhole q (pieces_of (stored_tenant_of changed)) → changed.charge ≡ charge_on v.pool.block_size (stored_tenant_of changed)
+    → All HasOwnPiece (stored_tenant_of changed).uploads → ReadsWhole q (pieces_of (stored_tenant_of changed)) → AreInOrder (stored_tenant_of changed) → changed.charge ≡ charge_on v.pool.block_size (stored_tenant_of changed)
     → HasUploadRoom v.room changed → IsKept (with_stored_tenant v q t changed)
-IsKept-with_stored_tenant v q t old changed kept is sizes stored stay own reads charge room =
+IsKept-with_stored_tenant v q t old changed kept is sizes stored stay own reads order charge room =
     let stored_tenants = stored_tenants-with_stored_tenant v q t changed in
     record {
       stored = rw stored_tenants stored;
       own = rw stored_tenants (All-set (λ (s : StoredTenant). All HasOwnPiece s.uploads) (store_of v).stored_tenants t (stored_tenant_of changed) own kept.own);
       reads = rw stored_tenants (All-stored_tenants (λ s. ReadsWhole q (pieces_of s)) (store_of v).stored_tenants t (stored_tenant_of changed) reads others);
+      order = rw stored_tenants (All-set AreInOrder (store_of v).stored_tenants t (stored_tenant_of changed) order kept.order);
       size = rw sizes.bytes kept.size;
       blocks = rw sizes.blocks kept.blocks;
       charges = rw sizes.bytes (All-set (λ (s : KeptTenant). s.charge ≡ charge_on v.pool.block_size (stored_tenant_of s)) v.stored_tenants.items t changed charge kept.charges);

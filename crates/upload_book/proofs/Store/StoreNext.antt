@@ -7,9 +7,10 @@ use Rattle.block_pool.specs.Blocks.{Blocks}
 use Rattle.upload_book.specs.BlockStore.{plain_in, part_at}
 use Rattle.upload_book.specs.TenantBook.{with_next}
 use Rattle.upload_book.specs.Stored.{StoredTenant, part_of}
+use Rattle.upload_book.proofs.Store.InOrder.{AreInOrder-next}
 use Rattle.upload_book.proofs.Store.Pieces.{ArePieces-copies}
 use Rattle.upload_book.proofs.Store.StoredTenants.{Changes, HoldsPieces-changed, IsStoredOn, IsStoredOn-stored_tenant, charge-changed}
-use Rattle.upload_book.proofs.Store.StoreLemmas.{with_stored_tenant, IsPart, IsStoredTenant-part, stored_tenant_at-part, own-part, reads-part, charge-part, room-part, IsKept-with_stored_tenant, plain_in-with_stored_tenant}
+use Rattle.upload_book.proofs.Store.StoreLemmas.{with_stored_tenant, IsPart, IsStoredTenant-part, stored_tenant_at-part, own-part, order-part, reads-part, charge-part, room-part, IsKept-with_stored_tenant, plain_in-with_stored_tenant}
 
 -- the part with another next id
 abbrev pub renumbered : KeptTenant → ℕ → KeptTenant
@@ -36,6 +37,7 @@ module _ (v : Inside) (t next : ℕ) (old : KeptTenant) (kept : IsKept v) (part 
       (λ k other there differs b some. refl)
       (own-part v t old kept part)
       (reads-part v t old kept part)
+      (AreInOrder-next (stored_tenant_of old) next more (order-part v t old kept part))
       (charge-part v t old kept part ∙ stays _ _ _ (charge-changed v.pool (store_of v).stored_tenants t (stored_tenant_of old) v.pool (stored_tenant_of (renumbered old next)) kept.stored (IsStoredTenant-part v t old part) change))
       (let room = room-part v t old kept part in record { uploads = room.uploads; spare = room.spare; boxes = room.boxes })
     where

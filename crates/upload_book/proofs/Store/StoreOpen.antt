@@ -9,12 +9,13 @@ use Rattle.upload_book.specs.Charge.{sum_below}
 use Rattle.upload_book.specs.declared.settings.TenantQuota.{TenantQuota}
 use Rattle.upload_book.specs.declared.stored_tenant.StoredTenant.{StoredTenant as KeptTenant}
 use Rattle.upload_book.specs.declared.block_store.BlockStore.TheInside.{Inside}
-use Rattle.upload_book.specs.inside.Kept.{stored_tenant_of, store_of, HasUploadRoom, IsKept}
+use Rattle.upload_book.specs.inside.Kept.{stored_tenant_of, store_of, AreInOrder, HasUploadRoom, IsKept}
 use Rattle.upload_book.specs.BlockStore.{opening_stored_tenants}
 use Rattle.upload_book.specs.Stored.{StoredTenant, pieces_of, charge_on}
 use Rattle.upload_book.specs.inside.Pieces.{ReadsWhole, HasOwnPiece}
 use Rattle.upload_book.specs.TenantBook.{opening_part}
 use Rattle.upload_book.proofs.Charge.InUse.{Contains-none}
+use Rattle.upload_book.proofs.Lawful.IdLemmas.{AreBelow-none}
 use Rattle.upload_book.proofs.Store.StayLemmas.{HoldsPieces-opening}
 
 -- one more tenant has one more part
@@ -58,6 +59,7 @@ IsKept-opening v tenants opens free size few charges room =
       stored = HoldsPieces-opening v.pool (store_of v).stored_tenants free none;
       own = All-weaker (λ (s : StoredTenant). s.uploads ≡ []) (λ (s : StoredTenant). All HasOwnPiece s.uploads) (λ s empty. rw empty (search rules)) (store_of v).stored_tenants none;
       reads = All-weaker (λ (s : StoredTenant). s.uploads ≡ []) (λ (s : StoredTenant). ReadsWhole v.pool (pieces_of s)) (λ s empty x c. absurd (Contains-none x (rw empty at c))) (store_of v).stored_tenants none;
+      order = All-weaker (λ (s : StoredTenant). s.uploads ≡ []) AreInOrder (λ s empty. record { ids = rw empty (AreBelow-none s.next); origins = rw empty (search rules) }) (store_of v).stored_tenants none;
       size = size;
       blocks = few;
       charges = λ k d within.

@@ -6,18 +6,19 @@ use Rattle.upload_book.specs.Charge.{charge_with}
 use Rattle.upload_book.specs.declared.head_row.Kind.TheVariants.{Final}
 use Rattle.upload_book.specs.declared.stored_tenant.StoredTenant.{StoredTenant as KeptTenant}
 use Rattle.upload_book.specs.declared.block_store.BlockStore.TheInside.{Inside}
-use Rattle.upload_book.specs.inside.Kept.{stored_tenant_of, store_of, HasUploadRoom, IsKept}
+use Rattle.upload_book.specs.inside.Kept.{stored_tenant_of, store_of, AreInOrder, HasUploadRoom, IsKept}
 use Rattle.upload_book.specs.BlockStore.{plain_in, part_at}
 use Rattle.upload_book.specs.inside.Places.{with_head, with_upload, with_bytes}
 use Rattle.upload_book.specs.Stored.{StoredTenant, StoredUpload, part_of, upload_of, pieces_of, charge_on, HoldsPieces}
-use Rattle.upload_book.specs.inside.Pieces.{own_chain, ReadsWhole, HasOwnPiece}
+use Rattle.upload_book.specs.inside.Pieces.{own_chain, ReadsWhole, HasOwnPiece, HasNoLaterPiece}
 use Rattle.upload_book.specs.TenantBook.{Entry}
 use Rattle.upload_book.specs.Upload.{content_of}
+use Rattle.upload_book.proofs.Store.InOrder.{AreInOrder-set}
 use Rattle.upload_book.proofs.Store.Pieces.{IsEntry, with_entry}
 use Rattle.upload_book.proofs.Store.PlainStoredTenants.{content-own, part-with_entry, segments-own}
 use Rattle.upload_book.proofs.Store.StayLemmas.{pieces-same, HoldsPieces-same, same-charge}
 use Rattle.upload_book.proofs.Store.StoreAppend.{own-read}
-use Rattle.upload_book.proofs.Store.StoreLemmas.{with_stored_tenant, with_stored_tenant-part, IsPart, IsStoredTenant-part, stored_tenant_at-part, own-part, reads-part, charge-part, charge_with-part, IsKept-with_stored_tenant, plain_in-with_stored_tenant}
+use Rattle.upload_book.proofs.Store.StoreLemmas.{with_stored_tenant, with_stored_tenant-part, IsPart, IsStoredTenant-part, stored_tenant_at-part, own-part, order-part, reads-part, charge-part, charge_with-part, IsKept-with_stored_tenant, plain_in-with_stored_tenant}
 
 -- an upload that is not final is read in a part, which then has it with this length and this end
 pub record IsRenewed (v : Inside) (t i : ℕ) (old changed : KeptTenant) (e : Entry StoredUpload) (declared expires : Option ℕ) : Type 0 where
@@ -48,6 +49,7 @@ module _ (v : Inside) (t i : ℕ) (old changed : KeptTenant) (e : Entry StoredUp
       (λ k other there differs b some. refl)
       (subst (λ (s : StoredTenant). All HasOwnPiece s.uploads) (sym stored_tenant) (All-set HasOwnPiece (stored_tenant_of old).uploads i new single (own-part v t old kept is.part)))
       (subst (λ (s : StoredTenant). ReadsWhole v.pool (pieces_of s)) (sym stored_tenant) (subst (ReadsWhole v.pool) (sym (pieces-same (stored_tenant_of old) i e new is.entry refl)) (reads-part v t old kept is.part)))
+      (subst AreInOrder (sym stored_tenant) (AreInOrder-set (stored_tenant_of old) i e new is.entry refl (subst HasNoLaterPiece (sym is.entry.read) ((order-part v t old kept is.part).origins i e is.entry.within)) (order-part v t old kept is.part)))
       (is.charge ∙ charge-part v t old kept is.part ∙ sym (same-charge v.pool.block_size (stored_tenant_of old) i e new is.entry refl) ∙ ap (charge_on v.pool.block_size) (sym stored_tenant))
       is.room
 

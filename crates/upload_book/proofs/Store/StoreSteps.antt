@@ -7,17 +7,18 @@ use Rattle.upload_book.specs.Charge.{charge_with}
 use Rattle.upload_book.specs.declared.head_row.Kind.TheVariants.{Final}
 use Rattle.upload_book.specs.declared.stored_tenant.StoredTenant.{StoredTenant as KeptTenant}
 use Rattle.upload_book.specs.declared.block_store.BlockStore.TheInside.{Inside}
-use Rattle.upload_book.specs.inside.Kept.{stored_tenant_of, store_of, HasUploadRoom, IsKept}
+use Rattle.upload_book.specs.inside.Kept.{stored_tenant_of, store_of, AreInOrder, HasUploadRoom, IsKept}
 use Rattle.upload_book.specs.BlockStore.{plain_in, part_at}
 use Rattle.upload_book.specs.declared.pieces.Piece.{Piece}
 use Rattle.upload_book.specs.Stored.{StoredTenant, StoredUpload, part_of, pieces_of, upload_of, charge_on, HoldsPieces}
 use Rattle.upload_book.specs.inside.Pieces.{own_chain, ReadsWhole, HasOwnPiece}
 use Rattle.upload_book.specs.TenantBook.{Entry, with_new}
 use Rattle.upload_book.proofs.Charge.InUse.{Contains-cases, Contains-none}
+use Rattle.upload_book.proofs.Store.InOrder.{AreInOrder-push, HasNoLaterPiece-own}
 use Rattle.upload_book.proofs.Store.JoinLemmas.{Contains-with_new, HoldsPieces-new, new-charge}
 use Rattle.upload_book.proofs.Store.PlainStoredTenants.{part-with_new}
 use Rattle.upload_book.proofs.Store.PutLemmas.{own_piece}
-use Rattle.upload_book.proofs.Store.StoreLemmas.{with_stored_tenant, IsPart, IsStoredTenant-part, stored_tenant_at-part, own-part, reads-part, charge-part, charge_with-part, IsKept-with_stored_tenant, plain_in-with_stored_tenant, with_stored_tenant-part}
+use Rattle.upload_book.proofs.Store.StoreLemmas.{with_stored_tenant, IsPart, IsStoredTenant-part, stored_tenant_at-part, own-part, order-part, reads-part, charge-part, charge_with-part, IsKept-with_stored_tenant, plain_in-with_stored_tenant, with_stored_tenant-part}
 
 -- an upload that has no bytes
 pub record IsEmpty (e : Entry StoredUpload) : Type 0 where
@@ -74,6 +75,7 @@ IsKept-pushed v t old changed e kept is =
     (λ k other there differs b some. refl)
     (subst (All HasOwnPiece) (sym is.uploads) (All-push HasOwnPiece old.uploads.items e (own-part v t old kept is.part) is.new.piece))
     (subst (λ (s : StoredTenant). ReadsWhole v.pool (pieces_of s)) (sym stored_tenant) (pushed-reads v t old changed e kept is))
+    (subst AreInOrder (sym stored_tenant) (AreInOrder-push (stored_tenant_of old) e.kept (HasNoLaterPiece-own (record { id = old.next; kept = e.kept }) (own_piece old.next chain) own refl) (order-part v t old kept is.part)))
     (is.charge ∙ charge-part v t old kept is.part
     ∙ sym (new-charge v.pool (store_of v).stored_tenants t (stored_tenant_of old) e.kept chain kept.size kept.stored part own is.new.empty is.new.none)
     ∙ ap (charge_on v.pool.block_size) (sym stored_tenant))

@@ -5,7 +5,8 @@ use Rattle.upload_book.specs.declared.stored_tenant.StoredTenant.{StoredTenant a
 use Rattle.upload_book.specs.declared.block_store.BlockStore.TheInside.{Inside}
 use Rattle.upload_book.specs.BlockStore.{BlockStore}
 use Rattle.upload_book.specs.Stored.{StoredTenant, StoredUpload, HoldsPieces, pieces_of, part_kept, charge_on}
-use Rattle.upload_book.specs.inside.Pieces.{HasOwnPiece, ReadsWhole}
+use Rattle.upload_book.specs.inside.Ids.{AreBelow}
+use Rattle.upload_book.specs.inside.Pieces.{HasNoLaterPiece, HasOwnPiece, ReadsWhole}
 use Rattle.upload_book.specs.TenantBook.{Entry, visible_in}
 
 -- the tenant's part that is kept so
@@ -27,12 +28,18 @@ pub record HasUploadRoom (room : ℕ) (t : KeptTenant) : Type 0 where
   pub spare : room ≤ vec_capacity t.spare
   pub boxes : vec_len t.uploads + vec_len t.spare ≡ room
 
--- The blocks are kept as they should be, each upload that is not final has its own piece, each part knows what its
--- tenant pays and has room for as many uploads as it may have.
+-- uploads stand by their ids, and none has a piece that was sent to a later one
+pub record AreInOrder (stored_tenant : StoredTenant) : Type 0 where
+  pub ids : AreBelow stored_tenant.next stored_tenant.uploads
+  pub origins : All HasNoLaterPiece stored_tenant.uploads
+
+-- The blocks are kept as they should be, and each upload that is not final has its own piece. Each part is in order, and
+-- it knows what its tenant pays and has room for as many uploads as it may have.
 pub record IsKept (s : Inside) : Type 0 where
   pub stored : HoldsPieces s.pool (store_of s).stored_tenants
   pub own : All (λ (stored_tenant : StoredTenant). All HasOwnPiece stored_tenant.uploads) (store_of s).stored_tenants
   pub reads : All (λ (stored_tenant : StoredTenant). ReadsWhole s.pool (pieces_of stored_tenant)) (store_of s).stored_tenants
+  pub order : All AreInOrder (store_of s).stored_tenants
   pub size : 0 < s.pool.block_size
   pub blocks : size_of s.pool < 2 ^ 64
   pub charges : All (λ (t : KeptTenant). t.charge ≡ charge_on s.pool.block_size (stored_tenant_of t)) s.stored_tenants.items

@@ -5,7 +5,7 @@ use Rattle.block_pool.specs.Blocks.{Blocks}
 use Rattle.block_bodies.specs.Bodies.{Chain, IsBodyOf, content_of}
 use Rattle.upload_book.specs.BlockStore.{no_upload}
 use Rattle.upload_book.specs.declared.stored_tenant.StoredTenant.{StoredTenant as KeptTenant}
-use Rattle.upload_book.specs.inside.Kept.{stored_tenant_of}
+use Rattle.upload_book.specs.inside.Kept.{stored_tenant_of, AreInOrder}
 use Rattle.upload_book.specs.inside.Pieces.{AreBodies, HasOwnPiece, ReadsWhole}
 use Rattle.upload_book.specs.snapshot.Restored.{RestoredSegment, RestoredUpload}
 use Rattle.upload_book.specs.snapshot.Snapshot.{upload_kept}
@@ -15,9 +15,10 @@ use Rattle.upload_book.specs.Stored.{StoredTenant, entry_of, part_of, pieces_of}
 abbrev pub kept_at : Blocks → StoredTenant → ℕ → RestoredUpload
 kept_at p t place = upload_kept (take place (part_of p t).uploads) (get_or (part_of p t).uploads place (entry_of p no_upload))
 
--- there is one, and the tenant's pieces are bodies of the pool
+-- there is one, the part is in order, and its pieces are bodies of the pool
 pub record IsKeptAt (p : Blocks) (t : KeptTenant) (place : ℕ) : Type 0 where
   pub there : place < length (stored_tenant_of t).uploads
+  pub order : AreInOrder (stored_tenant_of t)
   pub own : All HasOwnPiece (stored_tenant_of t).uploads
   pub bodies : AreBodies p (pieces_of (stored_tenant_of t))
   pub reads : ReadsWhole p (pieces_of (stored_tenant_of t))

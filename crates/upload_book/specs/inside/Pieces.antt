@@ -1,5 +1,5 @@
 -- The pieces of an upload as they are kept.
-use Rattle.std.specs.Prelude.{◌≡◌, ◌≢◌, ℕ, List, [], ◌∷◌, Contains, flat_map, length, Option, Some, None}
+use Rattle.std.specs.Prelude.{◌≡◌, ◌≢◌, ◌≤◌, ℕ, List, [], ◌∷◌, Contains, flat_map, length, Option, Some, None}
 use Rattle.block_pool.specs.Blocks.{Blocks}
 use Rattle.block_bodies.specs.Bodies.{Chain, IsBodyOf, content_of}
 use Rattle.upload_book.specs.declared.head_row.Kind.TheVariants.{Final}
@@ -35,6 +35,10 @@ own_chain (x ∷ pieces) = x.chain
 -- an upload that is not final has one piece, whose bytes were sent to it
 abbrev pub HasOwnPiece : Entry StoredUpload → Type 0
 HasOwnPiece e = e.kept.kind ≢ Final → e.kept.pieces ≡ record { origin = e.id; chain = own_chain e.kept.pieces } ∷ []
+
+-- none of its pieces was sent to a later upload
+abbrev pub HasNoLaterPiece : Entry StoredUpload → Type 0
+HasNoLaterPiece e = (x : Piece) → Contains e.kept.pieces x → x.origin ≤ e.id
 
 -- each piece reads as as many bytes as it has
 abbrev pub ReadsWhole : Blocks → List Piece → Type 0

@@ -33,7 +33,7 @@ pub record IsPartIn (s : BlockStore) (tenant : ℕ) (named : Option ℕ) (now pl
 
 -- there are few enough uploads of a tenant, and of their segments, for every block to be held once more by each
 pub record AreFew (s : BlockStore) (tenant : ℕ) : Type 0 where
-  pub uploads : length (part_at s tenant).uploads ≤ 64
+  pub uploads : length (part_at s tenant).uploads ≤ 65536
   pub segments : All (λ e. length e.kept.segments ≤ 32) (part_at s tenant).uploads
 
 -- the upload with bytes at its end, this length and this end

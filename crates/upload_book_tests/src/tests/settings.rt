@@ -127,6 +127,26 @@ fn settings_under_the_wide_bounds(rt: HostRuntime) {
     }
 }
 
+// How many uploads a tenant may have, and the fault of settings with them under the wide bounds.
+static WIDE_UPLOADS: [(u64, Option<SettingsFault>); 4] = [
+    (65, None),
+    (65_536, None),
+    (65_537, Some(SettingsFault::Uploads)),
+    (0, Some(SettingsFault::Uploads)),
+];
+
+#[test]
+fn uploads_under_the_wide_bounds(rt: HostRuntime) {
+    for (place, (uploads, fault)) in WIDE_UPLOADS.iter().enumerate() {
+        let numbers = Numbers {
+            uploads: *uploads,
+            ..GREATEST
+        };
+        let found = Settings::within(Bounds::Wide, numbers, &SIXTEEN).err();
+        assert!(&rt; found == *fault, "row {place}");
+    }
+}
+
 static SIXTEEN: [(&[u8], u64); 16] = [
     (b"00000000000000000000000000000000", 0),
     (b"1", 0),

@@ -18,7 +18,7 @@ abbrev max_size : Rule
 max_size = number_rule (codes "max-size") 0 18446744073709551615
 
 abbrev uploads : Rule
-uploads = option_rule (codes "uploads") (codes "64") 18446744073709551615
+uploads = option_rule (codes "uploads") (codes "1024") 18446744073709551615
 
 pub returns : goal.returns
 returns c =
@@ -26,4 +26,4 @@ returns c =
     let two = added _ _ _ block_size c.in_ok-arg-2.ensures c.run_block_size.ensures.local c.run_block_size.ensures.rule ∙ ap (λ (a : App). with_rule a block_size) one in
     let three = added _ _ _ lifetime c.in_ok-arg-3.ensures c.lifetime.ensures.local c.lifetime.ensures.rule ∙ ap (λ (a : App). with_rule a lifetime) two in
     let four = added _ _ _ max_size c.in_ok-arg-4.ensures c.run_max_size.ensures.local c.run_max_size.ensures.rule ∙ ap (λ (a : App). with_rule a max_size) three in
-    IfOk-weaker c.arg-5.result _ _ (λ r h. added _ _ r uploads h c.uploads.ensures.local c.uploads.ensures.rule ∙ ap (λ (a : App). with_rule a uploads) four) c.arg-5.ensures
+    IfOk-weaker c.arg-5.result _ _ (λ r h. added _ _ r uploads h c.run_uploads.ensures.local c.run_uploads.ensures.rule ∙ ap (λ (a : App). with_rule a uploads) four) c.arg-5.ensures

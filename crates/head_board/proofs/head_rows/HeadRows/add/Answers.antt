@@ -1,5 +1,5 @@
 use Rattle.std.proofs.Common.{arith}
-use Rattle.head_board.proofs.RowLemmas.{AreBelow-push}
+use Rattle.upload_book.proofs.Lawful.IdLemmas.{AreBelow-push}
 use Rattle.head_board.proofs.head_rows.HeadRows.add.Goals as goal
 
 pub invariant_of-self-2 : goal.invariant_of-self-2

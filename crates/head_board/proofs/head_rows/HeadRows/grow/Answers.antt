@@ -1,13 +1,17 @@
-use Rattle.std.proofs.Common.{refl, sym, ◌∙◌}
+use Rattle.std.proofs.Common.{refl, sym, ap, ◌∙◌}
+use Rattle.upload_book.specs.declared.head_row.HeadRow.{HeadRow}
 use Rattle.upload_book.specs.HeadNotes.{row_grown}
-use Rattle.head_board.proofs.RowLemmas.{is_absent, is_set, kept-placed, not-next, AreBelow-set}
+use Rattle.upload_book.specs.TenantBook.{Entry}
+use Rattle.upload_book.proofs.Lawful.IdLemmas.{AreBelow-set}
+use Rattle.head_board.proofs.RowLemmas.{found-within, is_absent, is_set, kept-placed, not-next}
 use Rattle.head_board.proofs.head_rows.HeadRows.grow.Goals as goal
 
 pub invariant_of-self : goal.invariant_of-self
 invariant_of-self c = record {
   rows = c.self.invariant.rows;
   spare = c.self.invariant.spare;
-  ids = AreBelow-set c.self.inside.next c.self.inside.rows.items c.args.id c.in-Some.place c.index_mut.result.now c.grow.new.self (row_grown c.args.growth.now c.index_mut.result.now.kept) (sym (rw (← c.self.view_is) at c.in-Some.ensures.place)) c.index_mut.ensures.value c.grow.ensures c.self.invariant.ids;
+  ids = AreBelow-set c.self.inside.next c.self.inside.rows.items c.in-Some.place c.index_mut.result.now c.grow.new.self (found-within c.self.inside.rows.items c.args.id c.in-Some.place (sym (rw (← c.self.view_is) at c.in-Some.ensures.place)))
+      c.index_mut.ensures.value (ap (λ (e : Entry HeadRow). e.id) c.grow.ensures) c.self.invariant.ids;
 }
 
 pub returns : goal.returns

@@ -1,5 +1,5 @@
 use Rattle.std.proofs.Common.{◌≤◌, rules}
-use Rattle.head_board.proofs.RowLemmas.{AreBelow-next}
+use Rattle.upload_book.proofs.Lawful.IdLemmas.{AreBelow-next}
 use Rattle.head_board.proofs.head_rows.HeadRows.set_next.Goals as goal
 
 pub invariant_of-self : goal.invariant_of-self

@@ -1,6 +1,6 @@
 use Rattle.std.proofs.Common.{sym, subst, arith}
-use Rattle.head_board.specs.inside.Rows.{AreBelow}
-use Rattle.head_board.proofs.RowLemmas.{AreBelow-remove}
+use Rattle.upload_book.specs.inside.Ids.{AreBelow}
+use Rattle.upload_book.proofs.Lawful.IdLemmas.{AreBelow-remove}
 use Rattle.head_board.proofs.head_rows.HeadRows.take_out.Goals as goal
 
 pub invariant_of-self : goal.invariant_of-self

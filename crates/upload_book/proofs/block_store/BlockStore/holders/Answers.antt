@@ -4,8 +4,14 @@ use Rattle.block_pool.specs.Blocks.{count_at}
 use Rattle.upload_book.specs.inside.Kept.{stored_tenant_of}
 use Rattle.upload_book.proofs.Store.HoldersLemmas.{holders-place, holders-entry, block-within}
 use Rattle.upload_book.proofs.Store.Pieces.{IsEntry}
-use Rattle.upload_book.proofs.Store.StoreLemmas.{IsPart}
+use Rattle.upload_book.proofs.Store.StoreLemmas.{IsPart, ids-read}
 use Rattle.upload_book.proofs.block_store.BlockStore.holders.Goals as goal
+
+pub place-requires : goal.place-requires
+place-requires c =
+    ids-read c.self.inside c.args.name.now.tenant c.in_ok-stored_tenant.stored_tenant.now c.self.invariant
+    (rw (← c.from.ensures, ← c.deref.ensures.value) (grind (arith, nat_tests)))
+    (rw (← c.from.ensures, ← c.deref.ensures.value) (search rules))
 
 pub returns-in_err-place-clause-value : goal.returns-in_err-place-clause-value
 returns-in_err-place-clause-value c =

@@ -2,7 +2,7 @@ use Rattle.std.proofs.Common.{Some, sym, ap, ◌∙◌, arith}
 use Rattle.upload_book.specs.inside.Kept.{stored_tenant_of}
 use Rattle.upload_book.specs.Stored.{StoredTenant}
 use Rattle.upload_book.proofs.Restoring.KeptUploads.{kept-past, kept-there, kept_from}
-use Rattle.upload_book.proofs.Store.StoreLemmas.{IsPart-read, bodies-part, own-part, reads-part, stored_tenant_at-part}
+use Rattle.upload_book.proofs.Store.StoreLemmas.{IsPart-read, bodies-part, order-part, own-part, reads-part, stored_tenant_at-part}
 use Rattle.upload_book.proofs.block_store.BlockStore.kept_upload.Goals as goal
 
 pub new-requires : goal.new-requires
@@ -12,6 +12,7 @@ new-requires c =
     let part = IsPart-read v c.args.self.now c.args.tenant old c.self.view_is c.requires c.index-stored_tenant.ensures in
     record {
       there = omega (arith, c.if-place-len.true, c.len.ensures);
+      order = order-part v c.args.tenant old c.self.invariant part;
       own = own-part v c.args.tenant old c.self.invariant part;
       bodies = bodies-part v c.args.tenant old c.self.invariant part;
       reads = reads-part v c.args.tenant old c.self.invariant part;

@@ -3,8 +3,12 @@ use Rattle.std.specs.List.{list_all}
 use Rattle.upload_book.specs.snapshot.Restore.{may_be_part}
 use Rattle.upload_book.specs.snapshot.Restored.{RestoredSegment}
 use Rattle.upload_book.specs.Stored.{StoredTenant, part_of}
-use Rattle.upload_book.proofs.Store.StoreLemmas.{IsPart-read, reads-part, stored_tenant_at-part}
+use Rattle.upload_book.proofs.Store.StoreLemmas.{IsPart-read, order-part, reads-part, stored_tenant_at-part}
 use Rattle.upload_book.proofs.block_store.BlockStore.may_be_parts.Goals as goal
+
+pub may_be_parts-requires : goal.may_be_parts-requires
+may_be_parts-requires c =
+    (order-part c.self.inside c.args.tenant c.index.result.now c.self.invariant (IsPart-read c.self.inside c.args.self.now c.args.tenant c.index.result.now c.self.view_is c.requires c.index.ensures)).ids
 
 pub returns : goal.returns
 returns c =

@@ -13,7 +13,7 @@ returns-in-Some c = λ d.
     let items = c.args.self.now.uploads.items in
     let front = flat_map kept_pieces (take c.args.place items) in
     let rest = take c.args.piece (get_or items c.args.place d).kept.pieces in
-    let found = rw (c.deref.ensures.value, c.in-Some.is) at c.first_chain.ensures in
+    let found = rw (c.in-Some.is) at (c.first_chain.ensures ∙ c.since.ensures) in
     sym (ap is_some (chain_from-found front rest c.args.origin c.in-Some.field-0.now (sym found)))
 
 pub returns-in-None : goal.returns-in-None
@@ -21,7 +21,7 @@ returns-in-None c = λ d.
     let items = c.args.self.now.uploads.items in
     let front = flat_map kept_pieces (take c.args.place items) in
     let rest = take c.args.piece (get_or items c.args.place d).kept.pieces in
-    let none = rw (c.deref.ensures.value, c.in-None.is) at c.first_chain.ensures in
+    let none = rw (c.in-None.is) at (c.first_chain.ensures ∙ c.since.ensures) in
     c.stands_before.ensures
     ∙ ap (λ (e : Entry StoredUpload). is_some (chain_from (take c.args.piece e.kept.pieces) c.args.origin)) (get_or_read items c.args.place c.index.result.now c.requires.there c.index.ensures d)
     ∙ sym (ap is_some (chain_from-later front rest c.args.origin (sym none)))
