@@ -7,10 +7,13 @@ ghost use Rattle.tus_steps.specs.Media.{is_patch_type as is_type, skip_blanks as
 const PATCH_TYPE: &[u8] = b"application/offset+octet-stream";
 
 /// Whether the value of a `Content-Type` field names the type of a PATCH, in any letter case and with
-/// any parameters after a `;` (tus 1.0.0, Core Protocol, PATCH).
+/// any parameters after a `;` (tus 1.0.0, Core Protocol, PATCH). In lower case and alone, as clients send it, it is told at once.
 pub fn is_patch_type(value: &[u8]) -> bool
     ensures { result ≡ is_type value.now }
 {
+    if value == PATCH_TYPE {
+        return true;
+    }
     trim_blanks(before_semicolon(value)).eq_ignore_ascii_case(PATCH_TYPE)
 }
 

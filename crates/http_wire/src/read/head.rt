@@ -91,12 +91,12 @@ fn layout_of(
         → ShowFields head.now fields.now h.fields
         → JudgesHead limits head.now h result }
 {
-    let name = line.method.of(head);
+    let own = method_of(line.method.of(head));
     let framing = Framing {
-        bare: method_of(name).is_head(),
+        bare: own.is_head(),
         close: line.version == 0 || fields.has_close,
     };
-    let method = method_by(name, fields.instead.of(head));
+    let method = method_by(own, fields.instead.of(head));
     let most = limits.most(method, fields.tus.checksum.of(head));
     match judge_fields(most, line.version, head, fields) {
         Err(refusal) => Err(RefusedHead {
@@ -178,11 +178,11 @@ fn method_of(name: &[u8]) -> Method
 }
 
 // The method in force: the one that an override names in place of the request's own.
-fn method_by(name: &[u8], instead: Field<'_>) -> Method
-    ensures { result ≡ method_by name.now (text_of instead.entry) }
+fn method_by(own: Method, instead: Field<'_>) -> Method
+    ensures { (name : List ℕ) → own ≡ method_of name → result ≡ method_by name (text_of instead.entry) }
 {
     match instead {
-        Field::Absent => method_of(name),
+        Field::Absent => own,
         Field::One(value) => method_of(value),
         Field::Many => Method::Other,
     }

@@ -2,7 +2,7 @@ ghost use Rattle.std.specs.Prelude.{◌≡◌, ◌≤◌, length, IfSome, None};
 ghost use Rattle.http_wire.specs.HeadText.{head_len_after, is_line_end, blank_len, ends_empty_line, has_many_lines};
 ghost use Rattle.http_wire.specs.inside.Scan.{scanned};
 
-use memchr::memchr;
+use memchr::{memchr, memchr_iter};
 
 /// The greatest number of bytes of a head, with the line ends before it.
 pub const HEAD_LIMIT: usize = 16_384;
@@ -99,5 +99,5 @@ fn is_line_end(byte: u8) -> bool
 pub fn has_many_lines(head: &[u8]) -> bool
     ensures { result ≡ has_many_lines head.now }
 {
-    head.iter().filter(|byte| **byte == b'\n').count() > LINE_LIMIT
+    memchr_iter(b'\n', head).nth(LINE_LIMIT).is_some()
 }

@@ -1,6 +1,6 @@
 //! The fields of a reply of the steps, in their order.
 ghost use Rattle.std.specs.Prelude.{◌≡◌, ◌+◌, ◌≤◌, ◌++◌, length, codes};
-ghost use Rattle.http_wire.specs.ReplyText.{own_fields, length_line, declared_line, upload_path, tells_version, extensions_in, max_size_in, algorithms_in, allowed_in, location_in, offset_in, metadata_in, concat_in, expires_in, is_uncached, line, text_line};
+ghost use Rattle.http_wire.specs.ReplyText.{own_fields, length_line, declared_line, upload_path, tells_version, extensions_in, max_size_in, algorithms_in, allowed_in, location_in, offset_in, metadata_in, concat_in, expires_in, is_uncached, line, line_if, text_line};
 ghost use Rattle.tus_steps.specs.PlacedReply.{reply_in};
 
 use crate::write::page::{FIELDS_MAX, LINE_MAX, OPENING_MAX, Page, SHORT_MAX};
@@ -26,7 +26,19 @@ pub fn put_own_fields(page: &mut Page, reply: &PlacedReply)
     page.put_text_line(b"Upload-Metadata", metadata_in(reply));
     page.put_text_line(b"Upload-Concat", concat_in(reply));
     page.put_moment_line(b"Upload-Expires", expires_in(reply));
-    page.put_line_if(is_uncached(reply), b"Cache-Control", b"no-store");
+    put_cache_line_if(page, is_uncached(reply));
+}
+
+// The line that keeps a reply out of caches, where the test holds. As it never changes, it is put at once.
+#[tactic(auto, unfolding(crate::specs::ReplyText::line, crate::specs::ReplyText::line_if))]
+fn put_cache_line_if(page: &mut Page, test: bool)
+    requires { length page.old + 25 ≤ FIELDS_MAX }
+    ensures text { page.new ≡ page.old ++ line_if test (codes "Cache-Control") (codes "no-store") }
+    ensures len { length page.new ≤ length page.old + 25 }
+{
+    if test {
+        page.put(b"Cache-Control: no-store\r\n");
+    }
 }
 
 fn tells_version(reply: &PlacedReply) -> bool

@@ -5,7 +5,6 @@ use crate::write::last_date::LastDate;
 use itoa::Buffer;
 use std::alloc::{AllocError, Global};
 use std::marker::Model;
-use tus_text::write_expires;
 use upload_book::Moment;
 
 /// The most bytes of earlier replies on a page when one more begins.
@@ -46,6 +45,8 @@ pub const HEAD_MAX: usize = FIELDS_MAX + ENDING_MAX;
 pub struct Page {
     text: Vec<u8>,
     last_date: LastDate,
+    // The last date that was put in a line. Uploads that change within one second mostly expire within one.
+    last_moment: LastDate,
 }
 
 impl Model for Page {
@@ -68,6 +69,7 @@ impl Page {
         Ok(Page {
             text,
             last_date: LastDate::new(),
+            last_moment: LastDate::new(),
         })
     }
 
@@ -164,7 +166,8 @@ impl Page {
         ensures len { length self.new ≤ length self.old + length name.now + 33 }
     {
         if let Some(moment) = moment {
-            self.put_line(name, &write_expires(moment.secs()));
+            let date = self.last_moment.at(moment);
+            self.put_line(name, &date);
         }
     }
 }

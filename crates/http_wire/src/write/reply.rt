@@ -1,7 +1,7 @@
 //! The bytes of the replies, put on a page; the bytes of an upload are not copied to it.
 ghost use Rattle.std.specs.Prelude.{◌≡◌, ◌+◌, ◌≤◌, ◌++◌, length, codes};
 ghost use Rattle.http_wire.specs.inside.ReplyPage.{page_text, word_in};
-ghost use Rattle.http_wire.specs.ReplyText.{status_line, reason_in, reasons, opening, ending, content_fields, word_body, body_in, media_in, reply_status, refusal_text};
+ghost use Rattle.http_wire.specs.ReplyText.{line, status_line, reason_in, reasons, opening, ending, content_fields, word_body, body_in, media_in, reply_status, refusal_text};
 ghost use Rattle.http_wire.specs.Refusal as wire;
 ghost use Rattle.tus_steps.specs.PlacedReply.{reply_in};
 
@@ -64,7 +64,17 @@ fn put_opening(page: &mut Page, status: u16, now: Moment)
     put_status_line(page, status);
     let date = page.date_at(now);
     page.put_line(b"Date", &date);
-    page.put_line(b"Tus-Resumable", b"1.0.0");
+    put_version_line(page);
+}
+
+// The line of the protocol's version. As it never changes, it is put at once.
+#[tactic(auto, unfolding(crate::specs::ReplyText::line))]
+fn put_version_line(page: &mut Page)
+    requires { length page.old + 22 ≤ OPENING_MAX }
+    ensures text { page.new ≡ page.old ++ line (codes "Tus-Resumable") (codes "1.0.0") }
+    ensures len { length page.new ≡ length page.old + 22 }
+{
+    page.put(b"Tus-Resumable: 1.0.0\r\n");
 }
 
 #[tactic(auto, unfolding(crate::specs::ReplyText::status_line))]
