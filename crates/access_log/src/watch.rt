@@ -97,12 +97,9 @@ impl<'a> Watch<'a> {
         let Some(record) = &mut seen.record else {
             return;
         };
-        self.received = self.received.saturating_add(record.received);
-        self.sent = self.sent.saturating_add(record.sent);
-        self.lost = self.lost.saturating_add(record.lost);
-        record.received = 0;
-        record.sent = 0;
-        record.lost = 0;
+        hand_on(&mut record.received, &mut self.received);
+        hand_on(&mut record.sent, &mut self.sent);
+        hand_on(&mut record.lost, &mut self.lost);
         let sent = record.sent_among(unsent);
         let told = if has_ended {
             record.answered.len()
@@ -207,17 +204,18 @@ impl<'a> Watch<'a> {
                 self.lost = self.lost.saturating_add(1);
             }
         }
-        counts.received = counts.received.saturating_add(self.received);
-        counts.sent = counts.sent.saturating_add(self.sent);
-        counts.accepted = counts.accepted.saturating_add(self.accepted);
-        counts.sweeps = counts.sweeps.saturating_add(self.sweeps);
-        counts.lost_lines = counts.lost_lines.saturating_add(self.lost);
-        self.received = 0;
-        self.sent = 0;
-        self.accepted = 0;
-        self.sweeps = 0;
-        self.lost = 0;
+        hand_on(&mut self.received, &mut counts.received);
+        hand_on(&mut self.sent, &mut counts.sent);
+        hand_on(&mut self.accepted, &mut counts.accepted);
+        hand_on(&mut self.sweeps, &mut counts.sweeps);
+        hand_on(&mut self.lost, &mut counts.lost_lines);
     }
+}
+
+// Adds a number to another, and begins it again at 0.
+fn hand_on(number: &mut u64, to: &mut u64) {
+    *to = to.saturating_add(*number);
+    *number = 0;
 }
 
 // Puts the line of a request. The error is that memory is lacking; then the line is lost.

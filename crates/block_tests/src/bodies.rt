@@ -139,13 +139,30 @@ fn give_back_both(rt: &impl Abort, pool: &mut Pool, body: Body, copy: Body, bloc
     give_back(rt, pool, copy, blocks);
 }
 
+// A new pool of so many blocks, and a body of these bytes that takes them all, so that more bytes are refused.
+fn full_body(
+    rt: &impl Abort,
+    alloc: Global,
+    blocks: u32,
+    block_size: u32,
+    bytes: &[u8],
+    more: &[u8],
+) -> (Pool, Body)
+    requires { IsWithinLimits blocks block_size }
+    ensures sole { IsSole result.0 result.1 }
+    ensures last { IsLastOwn result.0 result.1 }
+{
+    let (mut pool, mut body) = empty_body(rt, alloc, blocks, block_size);
+    assert_appended(rt, &mut pool, &mut body, bytes, u64::from(blocks));
+    assert_full(rt, &mut pool, &mut body, more);
+    assert_reads(rt, alloc, &pool, &body, bytes);
+    (pool, body)
+}
+
 #[test]
 fn append_fills_the_last_block(rt: HostRuntime) {
     let alloc = rt.alloc();
-    let (mut pool, mut body) = empty_body(&rt, alloc, 2, 4);
-    assert_appended(&rt, &mut pool, &mut body, b"hello", 2);
-    assert_full(&rt, &mut pool, &mut body, b"wxyz");
-    assert_reads(&rt, alloc, &pool, &body, b"hello");
+    let (mut pool, mut body) = full_body(&rt, alloc, 2, 4, b"hello", b"wxyz");
     assert_appended(&rt, &mut pool, &mut body, b"wxy", 0);
     assert_reads(&rt, alloc, &pool, &body, b"hellowxy");
 }
@@ -324,11 +341,7 @@ fn bodies_read_onto_one_vector(rt: HostRuntime) {
 // The smallest pool: its memory is there, and so is that of its body.
 #[test]
 fn one_block_of_one_byte(rt: HostRuntime) {
-    let alloc = rt.alloc();
-    let (mut pool, mut body) = empty_body(&rt, alloc, 1, 1);
-    assert_appended(&rt, &mut pool, &mut body, b"a", 1);
-    assert_full(&rt, &mut pool, &mut body, b"b");
-    assert_reads(&rt, alloc, &pool, &body, b"a");
+    let (mut pool, body) = full_body(&rt, rt.alloc(), 1, 1, b"a", b"b");
     give_back(&rt, &mut pool, body, 1);
 }
 

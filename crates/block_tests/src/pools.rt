@@ -144,18 +144,15 @@ fn assert_pool(rt: &impl Abort, alloc: Global, blocks: u32, block_size: u32) {
     assert!(rt; pool.free() == 1);
 }
 
-// Blocks, and bytes of a block.
-static POOLS: [(u32, u32); 4] = [
-    (1, 1),
-    (1_048_577, 1_024),
-    (1_025, 1_048_576),
-    (1, 1_048_576),
-];
-
 // The smallest pool, two of more than a gibibyte, and the largest block alone.
 #[test]
 fn pools(rt: HostRuntime) {
-    for (blocks, block_size) in &POOLS {
-        assert_pool(&rt, rt.alloc(), *blocks, *block_size);
+    for (blocks, block_size) in [
+        (1, 1),
+        (1_048_577, 1_024),
+        (1_025, 1_048_576),
+        (1, 1_048_576),
+    ] {
+        assert_pool(&rt, rt.alloc(), blocks, block_size);
     }
 }

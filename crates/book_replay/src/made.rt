@@ -81,13 +81,7 @@ fn has_segments(kind: Kind, id: u64, segments: &[RestoredSegment]) -> bool
 fn are_own(id: u64, segments: &[RestoredSegment]) -> bool
     ensures { result ≡ list_all (is_own id) segments.now }
 {
-    for place in 0..segments.len() {
-        let segment = &segments[place];
-        if !is_own(id, segment) {
-            return false;
-        }
-    }
-    true
+    segments.iter().all(|segment| is_own(id, segment))
 }
 
 // Whether it brings one.
@@ -101,13 +95,7 @@ fn is_own(id: u64, segment: &RestoredSegment) -> bool
 fn are_earlier(id: u64, segments: &[RestoredSegment]) -> bool
     ensures { result ≡ list_all (is_earlier id) segments.now }
 {
-    for place in 0..segments.len() {
-        let segment = &segments[place];
-        if !is_earlier(id, segment) {
-            return false;
-        }
-    }
-    true
+    segments.iter().all(|segment| is_earlier(id, segment))
 }
 
 // Whether one is.

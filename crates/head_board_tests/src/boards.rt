@@ -1,6 +1,6 @@
 //! A board and its readers.
 
-ghost use Rattle.std.specs.Prelude.{◌≡◌, ◌<◌, ℕ};
+ghost use Rattle.std.specs.Prelude.{◌≡◌, ◌<◌, ◌^◌, ℕ};
 ghost use Rattle.head_board.specs.Events.{book_at};
 ghost use Rattle.upload_book.specs.Book.{plain_of};
 ghost use Rattle.upload_book.specs.Change.{CanBeMade};
@@ -18,6 +18,18 @@ use worked_example::settings;
 // A place for the rows of a reader.
 fn place(alloc: Global) -> Result<Box<HeadRow>, AllocError> {
     Ok(Box::new(alloc, HeadRow::empty())?)
+}
+
+// A new book, and its board with room for so many readers.
+fn opened<'a, W: Wait + Abort>(rt: &'a W, alloc: Global, readers: usize) -> (Board<&'a W>, Book)
+    requires { (0 < readers) × (readers < 2 ^ 32) }
+    ensures { plain_of result.1 ≡ book_at result.0.settings result.0.events }
+{
+    let settings = settings().expect(rt, "settings");
+    let board = Board::new(alloc, rt, &settings, readers, Opened::new());
+    let board = board.expect(rt, "a board");
+    let book = Book::new(alloc, settings).expect(rt, "a book");
+    (board, book)
 }
 
 // A reader finds the offset of acme's first upload, or why there is none.
@@ -82,6 +94,19 @@ fn make<W: Wait + Drop>(
     let _ = book.commit(ready);
 }
 
+// Makes two uploads of acme, and gives what had happened once the first was made.
+fn make_two<W: Wait + Drop>(rt: &impl Abort, board: &mut Board<W>, book: &mut Book) -> SeenEvents
+    requires { plain_of book.old ≡ book_at board.old.settings board.old.events }
+    ensures book { plain_of book.new ≡ book_at board.new.settings board.new.events }
+    ensures log { board.new.log ≡ board.old.log }
+    ensures first { result.book ≡ board.old.log }
+{
+    make(rt, board, book, creation(), 1000);
+    let first = board.seen().again();
+    make(rt, board, book, creation(), 1000);
+    first
+}
+
 // After a look at an upload of acme a reader has seen these events, no fewer and no more.
 fn assert_rests(rt: &impl Abort, reader: &mut HeadReader, id: u64, expected: &SeenEvents)
     requires { expected.now.book ≡ reader.old.log }
@@ -95,9 +120,7 @@ fn assert_rests(rt: &impl Abort, reader: &mut HeadReader, id: u64, expected: &Se
 
 #[test]
 fn readers_see_what_is_shown(rt: HostRuntime) -> Result<(), Fail> {
-    let settings = settings()?;
-    let mut board = Board::new(rt.alloc(), &rt, &settings, 2, Opened::new())?;
-    let mut book = Book::new(rt.alloc(), settings)?;
+    let (mut board, mut book) = opened(&rt, rt.alloc(), 2);
     let mut one = board.reader(place(rt.alloc())?)?;
     let mut other = board.reader(place(rt.alloc())?)?;
     assert_seen(&rt, &mut one, Err(Refusal::Unknown));
@@ -122,13 +145,9 @@ fn readers_see_what_is_shown(rt: HostRuntime) -> Result<(), Fail> {
 
 #[test]
 fn a_look_rests_on_what_changed_its_upload(rt: HostRuntime) -> Result<(), Fail> {
-    let settings = settings()?;
-    let mut board = Board::new(rt.alloc(), &rt, &settings, 1, Opened::new())?;
-    let mut book = Book::new(rt.alloc(), settings)?;
+    let (mut board, mut book) = opened(&rt, rt.alloc(), 1);
     let mut reader = board.reader(place(rt.alloc())?)?;
-    make(&rt, &mut board, &mut book, creation(), 1000);
-    let first = board.seen().again();
-    make(&rt, &mut board, &mut book, creation(), 1000);
+    let first = make_two(&rt, &mut board, &mut book);
     assert!(rt; !board.seen().begins(&first));
     assert_rests(&rt, &mut reader, 1, &first);
     assert_rests(&rt, &mut reader, 2, board.seen());
@@ -137,12 +156,9 @@ fn a_look_rests_on_what_changed_its_upload(rt: HostRuntime) -> Result<(), Fail> 
 
 #[test]
 fn a_look_sees_that_its_upload_has_ended(rt: HostRuntime) -> Result<(), Fail> {
-    let settings = settings()?;
-    let mut board = Board::new(rt.alloc(), &rt, &settings, 1, Opened::new())?;
-    let mut book = Book::new(rt.alloc(), settings)?;
+    let (mut board, mut book) = opened(&rt, rt.alloc(), 1);
     let mut reader = board.reader(place(rt.alloc())?)?;
-    make(&rt, &mut board, &mut book, creation(), 1000);
-    make(&rt, &mut board, &mut book, creation(), 1000);
+    make_two(&rt, &mut board, &mut book);
     make(
         &rt,
         &mut board,

@@ -60,9 +60,8 @@ fn put_upload(out: &mut Vec<u8>, new: &NewUpload) -> Result<(), AllocError>
 fn put_first(out: &mut Vec<u8>, first: &FirstChunk) -> Result<(), AllocError>
     ensures { OnOk result (out.new.items ≡ out.old.items ++ first_bytes first.now) }
 {
-    put_flag_more(out, first.typed, first.more)?;
-    put_check(out, &first.check)?;
-    out.extend_from_slice(first.bytes.as_slice())
+    let bytes = first.bytes.as_slice();
+    put_body(out, first.typed, first.more, &first.check, bytes)
 }
 
 #[tactic(auto, unfolding(crate::specs::Records::chunk_bytes))]
@@ -71,9 +70,23 @@ fn put_chunk(out: &mut Vec<u8>, chunk: &Chunk) -> Result<(), AllocError>
 {
     put_number(out, chunk.offset)?;
     put_optional(out, chunk.length)?;
-    put_flag_more(out, chunk.typed, chunk.more)?;
-    put_check(out, &chunk.check)?;
-    out.extend_from_slice(chunk.bytes.as_slice())
+    let bytes = chunk.bytes.as_slice();
+    put_body(out, chunk.typed, chunk.more, &chunk.check, bytes)
+}
+
+// Puts whether a body is of its content type, how much more of it is to come, its checksum, and its bytes.
+fn put_body(
+    out: &mut Vec<u8>,
+    typed: bool,
+    more: u64,
+    told: &Option<Checksum>,
+    bytes: &[u8],
+) -> Result<(), AllocError>
+    ensures { OnOk result (out.new.items ≡ out.old.items ++ flag_more typed more ++ check told.now ++ bytes.now) }
+{
+    put_flag_more(out, typed, more)?;
+    put_check(out, told)?;
+    out.extend_from_slice(bytes)
 }
 
 #[tactic(auto, unfolding(crate::specs::Records::final_bytes))]

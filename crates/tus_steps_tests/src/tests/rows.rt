@@ -15,18 +15,29 @@ pub(crate) struct Row<'a> {
     pub(crate) told: Told<'a>,
 }
 
-/// A table of rows, each `now Method target [field: value, ..] body => told;`.
+/// A table of rows, each `now Method target [field: value, ..] body => told;`, or without `now` at second 1000.
 macro_rules! rows {
-    ($($now:literal $method:ident $target:literal [$($name:ident: $field:expr),*] $body:literal => $told:expr;)*) => {
+    ($($($now:literal)? $method:ident $target:literal [$($name:ident: $field:expr),*] $body:literal => $told:expr;)*) => {
         [$(Row {
-            now: $now,
+            now: crate::tests::rows::second!($($now)?),
             sent: crate::tests::requests::sent!($method $target [$($name: $field),*] $body),
             told: $told,
         }),*]
     };
 }
 
+/// The second of a row.
+macro_rules! second {
+    () => {
+        1000
+    };
+    ($now:literal) => {
+        $now
+    };
+}
+
 pub(crate) use rows;
+pub(crate) use second;
 
 /// Asks a new book what the rows ask, in turn.
 pub(crate) fn check(rt: &impl Abort, alloc: Global, rows: &[Row]) -> Result<(), Fail> {

@@ -32,10 +32,10 @@ fn assert_told(rt: &impl Abort, replies: &[Reply], rows: &[Row]) {
 }
 
 static IN_ORDER: [Row; 4] = rows! {
-    1000 Post b"/files/acme" [length: Field::One(b"10")] b"" => Created(1, None, Some(4600));
-    1000 Patch b"/files/acme/1" [offset: Field::One(b"0"), media: TYPED] b"hello" => Patched(5, Some(4600));
-    1000 Patch b"/files/acme/1" [offset: Field::One(b"3"), media: TYPED] b"x" => Refused(Refusal::Offset, Some(4600));
-    1000 Head b"/files/acme/1" [] b"" => Shown(5, Some(10), b"", b"");
+    Post b"/files/acme" [length: Field::One(b"10")] b"" => Created(1, None, Some(4600));
+    Patch b"/files/acme/1" [offset: Field::One(b"0"), media: TYPED] b"hello" => Patched(5, Some(4600));
+    Patch b"/files/acme/1" [offset: Field::One(b"3"), media: TYPED] b"x" => Refused(Refusal::Offset, Some(4600));
+    Head b"/files/acme/1" [] b"" => Shown(5, Some(10), b"", b"");
 };
 
 #[test]
@@ -47,12 +47,12 @@ fn a_run_answers_in_order(rt: HostRuntime) -> Result<(), Fail> {
 }
 
 static FULL: [Row; 6] = rows! {
-    1000 Post b"/files/beta" [length: Field::One(b"16")] b"" => Created(1, None, Some(4600));
-    1000 Patch b"/files/beta/1" [offset: Field::One(b"0"), media: TYPED] b"bbbbbbbbbbbbbbbb" => Patched(16, None);
-    1000 Post b"/files/acme" [length: Field::One(b"32")] b"" => Created(1, None, Some(4600));
-    1000 Patch b"/files/acme/1" [offset: Field::One(b"0"), media: TYPED] b"aaaaaaaaaaaaaaaaaaaaaaaaaaaaaaaa" => Patched(32, None);
-    1000 Post b"/files/acme" [length: Field::One(b"1")] b"" => Created(2, None, Some(4600));
-    1000 Patch b"/files/acme/2" [offset: Field::One(b"0"), media: TYPED] b"x" => Refused(Refusal::Quota, Some(4600));
+    Post b"/files/beta" [length: Field::One(b"16")] b"" => Created(1, None, Some(4600));
+    Patch b"/files/beta/1" [offset: Field::One(b"0"), media: TYPED] b"bbbbbbbbbbbbbbbb" => Patched(16, None);
+    Post b"/files/acme" [length: Field::One(b"32")] b"" => Created(1, None, Some(4600));
+    Patch b"/files/acme/1" [offset: Field::One(b"0"), media: TYPED] b"aaaaaaaaaaaaaaaaaaaaaaaaaaaaaaaa" => Patched(32, None);
+    Post b"/files/acme" [length: Field::One(b"1")] b"" => Created(2, None, Some(4600));
+    Patch b"/files/acme/2" [offset: Field::One(b"0"), media: TYPED] b"x" => Refused(Refusal::Quota, Some(4600));
 };
 
 #[test]

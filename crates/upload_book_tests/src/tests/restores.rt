@@ -186,12 +186,17 @@ fn goes(rt: &impl Abort, book: &mut Book, step: &Step) -> bool {
     refused == *refusal && (refused.is_none() || seen(rt, book) == before)
 }
 
+// Takes a book through these steps.
+fn take_steps(rt: &impl Abort, book: &mut Book, steps: &[Step]) {
+    for (place, step) in steps.iter().enumerate() {
+        assert!(rt; goes(rt, book, step), "piece {place}");
+    }
+}
+
 // A new book after these steps.
 fn book_after(rt: &impl Abort, alloc: Global, numbers: Numbers, steps: &[Step]) -> Book {
     let mut book = new_book(rt, alloc, numbers);
-    for (place, step) in steps.iter().enumerate() {
-        assert!(rt; goes(rt, &mut book, step), "piece {place}");
-    }
+    take_steps(rt, &mut book, steps);
     book
 }
 
@@ -221,15 +226,17 @@ fn seen(rt: &impl Abort, book: &Book) -> ([Result<PlainRow, Refusal>; 7], Accoun
 }
 
 // A book of acme with uploads of each kind of its own, of which the second has ended.
-pub(crate) fn requested(rt: &impl Abort, book: &mut Book) {
+pub(crate) fn requested(rt: &impl Abort, alloc: Global) -> Book {
+    let mut book = new_book(rt, alloc, NUMBERS);
     for length in [Some(10), Some(4), None, Some(2)] {
-        create(rt, book, ACME, length);
+        create(rt, &mut book, ACME, length);
     }
-    send(rt, book, 1, b"hello");
-    send(rt, book, 2, b"gone");
-    send(rt, book, 4, b"hi");
-    end(rt, book, 2);
-    part(rt, book, b"abcde");
+    send(rt, &mut book, 1, b"hello");
+    send(rt, &mut book, 2, b"gone");
+    send(rt, &mut book, 4, b"hi");
+    end(rt, &mut book, 2);
+    part(rt, &mut book, b"abcde");
+    book
 }
 
 // What puts it back.
@@ -262,8 +269,7 @@ fn assert_put_back(rt: &impl Abort, alloc: Global, was: &Book, steps: &[Step]) {
 
 #[test]
 fn a_book_is_put_back(rt: HostRuntime) {
-    let mut was = new_book(&rt, rt.alloc(), NUMBERS);
-    requested(&rt, &mut was);
+    let was = requested(&rt, rt.alloc());
     assert_put_back(&rt, rt.alloc(), &was, &PIECES);
 }
 
@@ -359,16 +365,18 @@ fn final_upload<'a>(
 
 // A book of acme with a final upload of one part twice and one of it and another, whose parts have ended, and with one of a
 // part that stands.
-pub(crate) fn joined(rt: &impl Abort, book: &mut Book) {
-    part(rt, book, b"abcde");
-    part(rt, book, b"fg");
+pub(crate) fn joined(rt: &impl Abort, alloc: Global) -> Book {
+    let mut book = new_book(rt, alloc, NUMBERS);
+    part(rt, &mut book, b"abcde");
+    part(rt, &mut book, b"fg");
     for parts in [[Some(1), Some(1)], [Some(1), Some(2)]] {
-        join(rt, book, &parts);
+        join(rt, &mut book, &parts);
     }
-    end(rt, book, 1);
-    end(rt, book, 2);
-    part(rt, book, b"hi");
-    join(rt, book, &[Some(5), Some(5)]);
+    end(rt, &mut book, 1);
+    end(rt, &mut book, 2);
+    part(rt, &mut book, b"hi");
+    join(rt, &mut book, &[Some(5), Some(5)]);
+    book
 }
 
 // What puts it back: of each part that has ended the bytes come once.
@@ -412,16 +420,24 @@ fn assert_finals_put_back(rt: &impl Abort, alloc: Global, was: &Book, steps: &[S
 
 #[test]
 fn finals_are_put_back(rt: HostRuntime) {
-    let mut was = new_book(&rt, rt.alloc(), NUMBERS);
-    joined(&rt, &mut was);
+    let was = joined(&rt, rt.alloc());
     assert_finals_put_back(&rt, rt.alloc(), &was, &FINAL_PIECES);
 }
 
-// Behind acme's part 1 of 5 bytes and its part 2, which lacks some, 4 is the next id.
-static REFUSED_FINALS: [Step; 12] = [
+// Acme's part 1 of 5 bytes and its part 2, which lacks some. Behind them 4 is the next id.
+static PARTS: [Step; 3] = [
     (Own(1, true, Some(5), b"abcde", Some(4600)), None),
     (Own(2, true, Some(9), b"fg", Some(4600)), None),
     (Next(4), None),
+];
+
+// Takes a new book through these steps, behind these parts.
+fn run_behind_parts(rt: &impl Abort, alloc: Global, numbers: Numbers, steps: &[Step]) {
+    let mut book = book_after(rt, alloc, numbers, &PARTS);
+    take_steps(rt, &mut book, steps);
+}
+
+static REFUSED_FINALS: [Step; 9] = [
     (
         Joined(5, 10, (1, None), (1, None), None),
         Some(Refusal::Field),
@@ -471,25 +487,17 @@ static REFUSED_FINALS: [Step; 12] = [
 
 #[test]
 fn finals_that_are_not_put_back(rt: HostRuntime) {
-    run(&rt, rt.alloc(), NUMBERS, &REFUSED_FINALS);
+    run_behind_parts(&rt, rt.alloc(), NUMBERS, &REFUSED_FINALS);
 }
 
 // There may be two uploads.
-static TWO_UPLOADS: [Step; 4] = [
-    (Own(1, true, Some(5), b"abcde", Some(4600)), None),
-    (Own(2, true, Some(9), b"fg", Some(4600)), None),
-    (Next(4), None),
-    (
-        Joined(4, 10, (1, None), (1, None), None),
-        Some(Refusal::Uploads),
-    ),
-];
+static TWO_UPLOADS: [Step; 1] = [(
+    Joined(4, 10, (1, None), (1, None), None),
+    Some(Refusal::Uploads),
+)];
 
 // Four blocks may be charged in all.
-static FOUR_BLOCKS: [Step; 5] = [
-    (Own(1, true, Some(5), b"abcde", Some(4600)), None),
-    (Own(2, true, Some(9), b"fg", Some(4600)), None),
-    (Next(4), None),
+static FOUR_BLOCKS: [Step; 2] = [
     (
         Joined(4, 10, (1, None), (3, Some(b"01234")), None),
         Some(Refusal::Spent),
@@ -499,6 +507,6 @@ static FOUR_BLOCKS: [Step; 5] = [
 
 #[test]
 fn finals_past_the_last(rt: HostRuntime) {
-    run(&rt, rt.alloc(), numbers!(uploads: 2), &TWO_UPLOADS);
-    run(&rt, rt.alloc(), numbers!(last_total: 4), &FOUR_BLOCKS);
+    run_behind_parts(&rt, rt.alloc(), numbers!(uploads: 2), &TWO_UPLOADS);
+    run_behind_parts(&rt, rt.alloc(), numbers!(last_total: 4), &FOUR_BLOCKS);
 }

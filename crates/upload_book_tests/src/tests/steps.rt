@@ -24,6 +24,10 @@ pub enum Call {
     PostUntyped(Option<u64>, &'static [u8]),
     /// A creation of a partial upload.
     Partial(Option<u64>),
+    /// A creation of an upload of its own, of this length, and a PATCH with its first bytes.
+    Begin(Option<u64>, &'static [u8]),
+    /// The same of a partial upload.
+    Part(Option<u64>, &'static [u8]),
     /// A concatenation of parts.
     Join(&'static [Option<u64>]),
     /// A PATCH of an upload, at an offset.
@@ -49,6 +53,8 @@ pub enum Told<'a> {
     Created(u64, Option<u64>),
     /// An offset, and when the upload expires.
     Appended(u64, Option<u64>),
+    /// What a creation tells, and then what a PATCH tells.
+    Begun(u64, Option<u64>, u64, Option<u64>),
     /// A kind, an offset, a length, and when the upload expires.
     Row(Kind, u64, Option<u64>, Option<u64>),
     Bytes(&'a [u8]),
@@ -69,23 +75,37 @@ pub struct Step {
     pub tenant: &'static [u8],
     pub call: Call,
     pub told: Told<'static>,
-    /// What acme pays, what beta pays, how many blocks are free, and how many were charged and released so far.
-    pub after: [u64; 5],
+    /// What is paid, where that is another than before.
+    pub after: Option<Paid>,
 }
 
-/// A table of steps, each `secs tenant call => told, after;`.
+/// What acme pays, what beta pays, how many blocks are free, and how many were charged and released so far.
+pub type Paid = [u64; 5];
+
+/// A table of steps, each `secs tenant call => told, after;`, or without `after`, where that is as before.
 macro_rules! steps {
-    ($($secs:literal $tenant:ident $call:expr => $told:expr, $after:expr;)*) => {
+    ($($secs:literal $tenant:ident $call:expr => $told:expr $(, $after:expr)?;)*) => {
         [$(Step {
             secs: $secs,
             tenant: $tenant,
             call: $call,
             told: $told,
-            after: $after,
+            after: crate::tests::steps::changed!($($after)?),
         }),*]
     };
 }
 
+/// What is paid after a step, where it says so.
+macro_rules! changed {
+    () => {
+        None
+    };
+    ($after:expr) => {
+        Some($after)
+    };
+}
+
+pub(crate) use changed;
 pub(crate) use steps;
 
 fn secs(expires: Option<Moment>) -> Option<u64> {
@@ -261,7 +281,7 @@ impl Pair {
     }
 
     // What the tenants pay, how many blocks are free, and the two totals.
-    fn paid(&self, rt: &impl Abort) -> [u64; 5] {
+    fn paid(&self, rt: &impl Abort) -> Paid {
         let book = &self.book;
         let acme = book.settings().tenant(ACME).expect(rt, "acme");
         let beta = book.settings().tenant(BETA).expect(rt, "beta");
@@ -275,7 +295,7 @@ impl Pair {
     }
 
     // The same by the plain book.
-    fn plainly_paid(&self) -> [u64; 5] {
+    fn plainly_paid(&self) -> Paid {
         let plain = &self.plain;
         let (acme, beta) = (plain.charge(0), plain.charge(1));
         let free = plain
@@ -286,13 +306,13 @@ impl Pair {
         [acme, beta, free, plain.charged, plain.released]
     }
 
-    // What is not as a step says after it, if anything.
-    fn wrong_after(&self, rt: &impl Abort, step: &Step) -> Option<&'static str> {
-        if !self.has_expiries(rt, step.told) {
+    // What is not as it is to be after a step, if anything.
+    fn wrong_after(&self, rt: &impl Abort, told: Told, paid: Paid) -> Option<&'static str> {
+        if !self.has_expiries(rt, told) {
             Some("the uploads that expire")
-        } else if self.paid(rt) != step.after {
+        } else if self.paid(rt) != paid {
             Some("what is paid")
-        } else if self.plainly_paid() != step.after {
+        } else if self.plainly_paid() != paid {
             Some("what is paid by the plain book")
         } else {
             None
@@ -421,20 +441,82 @@ fn later_answers(
     }
 }
 
-// Takes the pair through one step.
-fn take(rt: &impl Abort, pair: &mut Pair, place: usize, step: &Step) {
+// Takes the pair through one call, after which this is paid.
+fn take(rt: &impl Abort, pair: &mut Pair, place: usize, step: &Step, paid: Paid) {
     let answers = answers(rt, pair, place, step);
     assert_right(rt, place, wrong_in(answers, step.told));
-    assert_right(rt, place, pair.wrong_after(rt, step));
+    assert_right(rt, place, pair.wrong_after(rt, step.told, paid));
+}
+
+// Takes the pair through a creation, by which nothing is paid, and through a PATCH of the upload that it gives.
+fn begin(
+    rt: &impl Abort,
+    pair: &mut Pair,
+    place: usize,
+    step: &Step,
+    creation: Call,
+    bytes: &'static [u8],
+    paid: Paid,
+) {
+    let Told::Begun(id, created, offset, expires) = step.told else {
+        panic!(rt; "call {place} begins an upload");
+    };
+    let first = Step {
+        call: creation,
+        told: Told::Created(id, created),
+        ..*step
+    };
+    let second = Step {
+        call: Call::Patch(id, 0, bytes),
+        told: Told::Appended(offset, expires),
+        ..*step
+    };
+    take(rt, pair, place, &first, paid);
+    take(rt, pair, place, &second, step.after.unwrap_or(paid));
+}
+
+// Takes the pair through one step, before which this is paid.
+fn play(rt: &impl Abort, pair: &mut Pair, place: usize, step: &Step, paid: Paid) {
+    match step.call {
+        Call::Begin(length, bytes) => {
+            begin(rt, pair, place, step, Call::Post(length), bytes, paid)
+        }
+        Call::Part(length, bytes) => {
+            begin(rt, pair, place, step, Call::Partial(length), bytes, paid)
+        }
+        _ => take(rt, pair, place, step, step.after.unwrap_or(paid)),
+    }
+}
+
+// Takes the pair through the steps of a table, before which this is paid, and gives what is paid then.
+fn play_all(rt: &impl Abort, pair: &mut Pair, steps: &[Step], before: Paid) -> Paid {
+    let mut paid = before;
+    for (place, step) in steps.iter().enumerate() {
+        play(rt, pair, place, step, paid);
+        if let Some(after) = step.after {
+            paid = after;
+        }
+    }
+    paid
 }
 
 /// Takes a new book, and a new plain one, through the steps of a table.
 pub fn run(rt: &impl Abort, alloc: Global, numbers: Numbers, steps: &[Step]) {
+    run_behind(rt, alloc, numbers, &[], steps);
+}
+
+/// The same behind the steps of a beginning.
+pub fn run_behind(
+    rt: &impl Abort,
+    alloc: Global,
+    numbers: Numbers,
+    beginning: &[Step],
+    steps: &[Step],
+) {
     let mut pair = Pair {
         book: new_book(rt, alloc, numbers),
         plain: PlainBook::new(alloc, numbers, [8, 4]),
     };
-    for (place, step) in steps.iter().enumerate() {
-        take(rt, &mut pair, place, step);
-    }
+    let paid = play_all(rt, &mut pair, beginning, [0, 0, numbers.blocks, 0, 0]);
+    play_all(rt, &mut pair, steps, paid);
 }

@@ -1,46 +1,45 @@
 //! Sweeps of single uploads, and before, between and after the ends of partial uploads and of final ones over them.
 
 use crate::tests::books::{ACME, BETA, create, moment};
-use crate::tests::steps::Call::{Delete, Expiries, Get, Head, Join, Partial, Patch, Post, Sweep};
-use crate::tests::steps::Told::{Appended, Bytes, Created, Expire, Refused, Removed, Row, Swept};
-use crate::tests::steps::{Step, run, steps};
+use crate::tests::joins::{JOINED, TWO_JOINED};
+use crate::tests::steps::Call::{
+    Begin, Delete, Expiries, Get, Head, Join, Part, Partial, Patch, Post, Sweep,
+};
+use crate::tests::steps::Told::{
+    Appended, Begun, Bytes, Created, Expire, Refused, Removed, Row, Swept,
+};
+use crate::tests::steps::{Step, run, run_behind, steps};
 use std::process::Abort;
 use std::test::Fail;
 use upload_book::{Book, Kind, Refusal, Settings};
 use worked_example::NUMBERS;
 
 // An expired upload costs its blocks until a sweep ends it.
-static EXPIRED_AND_SWEPT: [Step; 9] = steps! {
-    1000 ACME Post(Some(10)) => Created(1, Some(4600)), [0, 0, 12, 0, 0];
-    1000 ACME Patch(1, 0, b"hello") => Appended(5, Some(4600)), [2, 0, 10, 2, 0];
-    4599 ACME Sweep => Swept(0, 0, 0), [2, 0, 10, 2, 0];
-    4599 ACME Head(1) => Row(Kind::Plain, 5, Some(10), Some(4600)), [2, 0, 10, 2, 0];
-    4600 ACME Head(1) => Refused(Refusal::Gone), [2, 0, 10, 2, 0];
+static EXPIRED_AND_SWEPT: [Step; 8] = steps! {
+    1000 ACME Begin(Some(10), b"hello") => Begun(1, Some(4600), 5, Some(4600)), [2, 0, 10, 2, 0];
+    4599 ACME Sweep => Swept(0, 0, 0);
+    4599 ACME Head(1) => Row(Kind::Plain, 5, Some(10), Some(4600));
+    4600 ACME Head(1) => Refused(Refusal::Gone);
     4600 ACME Sweep => Swept(1, 2, 2), [0, 0, 12, 2, 2];
-    4600 ACME Sweep => Swept(0, 0, 0), [0, 0, 12, 2, 2];
-    1000 ACME Head(1) => Refused(Refusal::Gone), [0, 0, 12, 2, 2];
-    4600 ACME Post(Some(10)) => Created(2, Some(8200)), [0, 0, 12, 2, 2];
+    4600 ACME Sweep => Swept(0, 0, 0);
+    1000 ACME Head(1) => Refused(Refusal::Gone);
+    4600 ACME Post(Some(10)) => Created(2, Some(8200));
 };
 
 // The first, the third and the last of five uploads end in one sweep. The others stay, each with its own bytes.
-static EVERY_OTHER_ONE: [Step; 17] = steps! {
-    1000 ACME Post(Some(6)) => Created(1, Some(4600)), [0, 0, 12, 0, 0];
-    1000 ACME Patch(1, 0, b"a") => Appended(1, Some(4600)), [1, 0, 11, 1, 0];
-    2000 ACME Post(Some(6)) => Created(2, Some(5600)), [1, 0, 11, 1, 0];
-    2000 ACME Patch(2, 0, b"bbbbb") => Appended(5, Some(5600)), [3, 0, 9, 3, 0];
-    1000 ACME Post(Some(6)) => Created(3, Some(4600)), [3, 0, 9, 3, 0];
-    1000 ACME Patch(3, 0, b"ccccc") => Appended(5, Some(4600)), [5, 0, 7, 5, 0];
-    1000 ACME Post(Some(1)) => Created(4, Some(4600)), [5, 0, 7, 5, 0];
-    1000 ACME Patch(4, 0, b"d") => Appended(1, None), [6, 0, 6, 6, 0];
-    1000 ACME Post(Some(6)) => Created(5, Some(4600)), [6, 0, 6, 6, 0];
-    1000 ACME Patch(5, 0, b"e") => Appended(1, Some(4600)), [7, 0, 5, 7, 0];
+static EVERY_OTHER_ONE: [Step; 12] = steps! {
+    1000 ACME Begin(Some(6), b"a") => Begun(1, Some(4600), 1, Some(4600)), [1, 0, 11, 1, 0];
+    2000 ACME Begin(Some(6), b"bbbbb") => Begun(2, Some(5600), 5, Some(5600)), [3, 0, 9, 3, 0];
+    1000 ACME Begin(Some(6), b"ccccc") => Begun(3, Some(4600), 5, Some(4600)), [5, 0, 7, 5, 0];
+    1000 ACME Begin(Some(1), b"d") => Begun(4, Some(4600), 1, None), [6, 0, 6, 6, 0];
+    1000 ACME Begin(Some(6), b"e") => Begun(5, Some(4600), 1, Some(4600)), [7, 0, 5, 7, 0];
     4600 ACME Sweep => Swept(3, 4, 4), [3, 0, 9, 7, 4];
-    4600 ACME Head(5) => Refused(Refusal::Gone), [3, 0, 9, 7, 4];
-    4600 ACME Head(2) => Row(Kind::Plain, 5, Some(6), Some(5600)), [3, 0, 9, 7, 4];
-    4600 ACME Patch(2, 5, b"B") => Appended(6, None), [3, 0, 9, 7, 4];
-    9000 ACME Sweep => Swept(0, 0, 0), [3, 0, 9, 7, 4];
-    9000 ACME Get(2) => Bytes(b"bbbbbB"), [3, 0, 9, 7, 4];
-    9000 ACME Get(4) => Bytes(b"d"), [3, 0, 9, 7, 4];
+    4600 ACME Head(5) => Refused(Refusal::Gone);
+    4600 ACME Head(2) => Row(Kind::Plain, 5, Some(6), Some(5600));
+    4600 ACME Patch(2, 5, b"B") => Appended(6, None);
+    9000 ACME Sweep => Swept(0, 0, 0);
+    9000 ACME Get(2) => Bytes(b"bbbbbB");
+    9000 ACME Get(4) => Bytes(b"d");
 };
 
 #[test]
@@ -50,107 +49,88 @@ fn sweeps_of_single_uploads(rt: HostRuntime) {
 }
 
 // The part expires and is swept; the final upload keeps its blocks.
-static SWEPT_BEFORE_ITS_FINAL: [Step; 8] = steps! {
-    1000 ACME Partial(Some(5)) => Created(1, Some(4600)), [0, 0, 12, 0, 0];
-    1000 ACME Patch(1, 0, b"abcde") => Appended(5, Some(4600)), [2, 0, 10, 2, 0];
-    1000 ACME Join(&[Some(1)]) => Created(2, None), [2, 0, 10, 2, 0];
-    4599 ACME Sweep => Swept(0, 0, 0), [2, 0, 10, 2, 0];
-    4600 ACME Head(1) => Refused(Refusal::Gone), [2, 0, 10, 2, 0];
-    4600 ACME Sweep => Swept(1, 0, 0), [2, 0, 10, 2, 0];
-    4600 ACME Get(2) => Bytes(b"abcde"), [2, 0, 10, 2, 0];
+static SWEPT_BEFORE_ITS_FINAL: [Step; 5] = steps! {
+    4599 ACME Sweep => Swept(0, 0, 0);
+    4600 ACME Head(1) => Refused(Refusal::Gone);
+    4600 ACME Sweep => Swept(1, 0, 0);
+    4600 ACME Get(2) => Bytes(b"abcde");
     4600 ACME Delete(2) => Removed(2, 2), [0, 0, 12, 2, 2];
 };
 
 // The final upload ends first, and then the sweep gives the blocks back.
-static SWEPT_AFTER_ITS_FINAL: [Step; 6] = steps! {
-    1000 ACME Partial(Some(5)) => Created(1, Some(4600)), [0, 0, 12, 0, 0];
-    1000 ACME Patch(1, 0, b"abcde") => Appended(5, Some(4600)), [2, 0, 10, 2, 0];
-    1000 ACME Join(&[Some(1)]) => Created(2, None), [2, 0, 10, 2, 0];
-    1000 ACME Delete(2) => Removed(0, 0), [2, 0, 10, 2, 0];
+static SWEPT_AFTER_ITS_FINAL: [Step; 3] = steps! {
+    1000 ACME Delete(2) => Removed(0, 0);
     4600 ACME Sweep => Swept(1, 2, 2), [0, 0, 12, 2, 2];
-    4600 ACME Sweep => Swept(0, 0, 0), [0, 0, 12, 2, 2];
+    4600 ACME Sweep => Swept(0, 0, 0);
 };
 
 // The part ends first. No sweep ends its final upload, however late it comes.
-static ENDED_BEFORE_ITS_FINAL: [Step; 6] = steps! {
-    1000 ACME Partial(Some(5)) => Created(1, Some(4600)), [0, 0, 12, 0, 0];
-    1000 ACME Patch(1, 0, b"abcde") => Appended(5, Some(4600)), [2, 0, 10, 2, 0];
-    1000 ACME Join(&[Some(1)]) => Created(2, None), [2, 0, 10, 2, 0];
-    1000 ACME Delete(1) => Removed(0, 0), [2, 0, 10, 2, 0];
-    253_402_300_799 ACME Sweep => Swept(0, 0, 0), [2, 0, 10, 2, 0];
+static ENDED_BEFORE_ITS_FINAL: [Step; 3] = steps! {
+    1000 ACME Delete(1) => Removed(0, 0);
+    253_402_300_799 ACME Sweep => Swept(0, 0, 0);
     253_402_300_799 ACME Delete(2) => Removed(2, 2), [0, 0, 12, 2, 2];
 };
 
 // A sweep between the ends of two final uploads that share one part.
-static SWEPT_BETWEEN_FINALS: [Step; 10] = steps! {
-    1000 ACME Partial(Some(5)) => Created(1, Some(4600)), [0, 0, 12, 0, 0];
-    1000 ACME Patch(1, 0, b"abcde") => Appended(5, Some(4600)), [2, 0, 10, 2, 0];
-    1000 ACME Partial(Some(2)) => Created(2, Some(4600)), [2, 0, 10, 2, 0];
-    1000 ACME Patch(2, 0, b"fg") => Appended(2, Some(4600)), [3, 0, 9, 3, 0];
-    1000 ACME Join(&[Some(1), Some(2)]) => Created(3, None), [3, 0, 9, 3, 0];
-    1000 ACME Join(&[Some(2)]) => Created(4, None), [3, 0, 9, 3, 0];
-    4600 ACME Sweep => Swept(2, 0, 0), [3, 0, 9, 3, 0];
+static SWEPT_BETWEEN_FINALS: [Step; 5] = steps! {
+    1000 ACME Join(&[Some(2)]) => Created(4, None);
+    4600 ACME Sweep => Swept(2, 0, 0);
     4600 ACME Delete(3) => Removed(2, 2), [1, 0, 11, 3, 2];
-    4600 ACME Get(4) => Bytes(b"fg"), [1, 0, 11, 3, 2];
+    4600 ACME Get(4) => Bytes(b"fg");
     4600 ACME Delete(4) => Removed(1, 1), [0, 0, 12, 3, 3];
 };
 
 // One sweep ends uploads of both tenants, one in the middle; final, complete and later ones stay.
-static SWEPT_AMONG_OTHERS: [Step; 14] = steps! {
-    1000 ACME Partial(Some(5)) => Created(1, Some(4600)), [0, 0, 12, 0, 0];
-    1000 ACME Patch(1, 0, b"abcde") => Appended(5, Some(4600)), [2, 0, 10, 2, 0];
-    1000 ACME Join(&[Some(1), Some(1)]) => Created(2, None), [2, 0, 10, 2, 0];
-    1000 ACME Post(Some(9)) => Created(3, Some(4600)), [2, 0, 10, 2, 0];
-    1000 ACME Patch(3, 0, b"x") => Appended(1, Some(4600)), [3, 0, 9, 3, 0];
-    2000 ACME Partial(Some(9)) => Created(4, Some(5600)), [3, 0, 9, 3, 0];
-    2000 ACME Patch(4, 0, b"y") => Appended(1, Some(5600)), [4, 0, 8, 4, 0];
-    1000 BETA Post(Some(9)) => Created(1, Some(4600)), [4, 0, 8, 4, 0];
-    1000 BETA Patch(1, 0, b"hello") => Appended(5, Some(4600)), [4, 2, 6, 6, 0];
+static SWEPT_AMONG_OTHERS: [Step; 10] = steps! {
+    1000 ACME Part(Some(5), b"abcde") => Begun(1, Some(4600), 5, Some(4600)), [2, 0, 10, 2, 0];
+    1000 ACME Join(&[Some(1), Some(1)]) => Created(2, None);
+    1000 ACME Begin(Some(9), b"x") => Begun(3, Some(4600), 1, Some(4600)), [3, 0, 9, 3, 0];
+    2000 ACME Part(Some(9), b"y") => Begun(4, Some(5600), 1, Some(5600)), [4, 0, 8, 4, 0];
+    1000 BETA Begin(Some(9), b"hello") => Begun(1, Some(4600), 5, Some(4600)), [4, 2, 6, 6, 0];
     4600 BETA Sweep => Swept(3, 3, 3), [3, 0, 9, 6, 3];
-    4600 ACME Get(2) => Bytes(b"abcdeabcde"), [3, 0, 9, 6, 3];
-    4600 ACME Head(4) => Row(Kind::Partial, 1, Some(9), Some(5600)), [3, 0, 9, 6, 3];
+    4600 ACME Get(2) => Bytes(b"abcdeabcde");
+    4600 ACME Head(4) => Row(Kind::Partial, 1, Some(9), Some(5600));
     5600 ACME Sweep => Swept(1, 1, 1), [2, 0, 10, 6, 4];
     5600 ACME Delete(2) => Removed(2, 2), [0, 0, 12, 6, 6];
 };
 
 #[test]
 fn sweeps_in_each_order(rt: HostRuntime) {
-    run(&rt, rt.alloc(), NUMBERS, &SWEPT_BEFORE_ITS_FINAL);
-    run(&rt, rt.alloc(), NUMBERS, &SWEPT_AFTER_ITS_FINAL);
-    run(&rt, rt.alloc(), NUMBERS, &ENDED_BEFORE_ITS_FINAL);
-    run(&rt, rt.alloc(), NUMBERS, &SWEPT_BETWEEN_FINALS);
+    run_behind(&rt, rt.alloc(), NUMBERS, &JOINED, &SWEPT_BEFORE_ITS_FINAL);
+    run_behind(&rt, rt.alloc(), NUMBERS, &JOINED, &SWEPT_AFTER_ITS_FINAL);
+    run_behind(&rt, rt.alloc(), NUMBERS, &JOINED, &ENDED_BEFORE_ITS_FINAL);
+    run_behind(&rt, rt.alloc(), NUMBERS, &TWO_JOINED, &SWEPT_BETWEEN_FINALS);
     run(&rt, rt.alloc(), NUMBERS, &SWEPT_AMONG_OTHERS);
 }
 
 // Each upload that expires is listed once: by when, and where that is the same by its id, whatever their order before.
 static LISTED_AND_SWEPT: [Step; 9] = steps! {
-    1000 ACME Partial(Some(1)) => Created(1, Some(4600)), [0, 0, 12, 0, 0];
-    1010 ACME Partial(Some(1)) => Created(2, Some(4610)), [0, 0, 12, 0, 0];
-    1000 ACME Partial(Some(1)) => Created(3, Some(4600)), [0, 0, 12, 0, 0];
+    1000 ACME Partial(Some(1)) => Created(1, Some(4600));
+    1010 ACME Partial(Some(1)) => Created(2, Some(4610));
+    1000 ACME Partial(Some(1)) => Created(3, Some(4600));
     1020 ACME Patch(1, 0, b"a") => Appended(1, Some(4620)), [1, 0, 11, 1, 0];
-    1020 ACME Expiries => Expire(&[[4600, 0, 3], [4610, 0, 2], [4620, 0, 1]]), [1, 0, 11, 1, 0];
-    4600 ACME Sweep => Swept(1, 0, 0), [1, 0, 11, 1, 0];
-    4610 ACME Sweep => Swept(1, 0, 0), [1, 0, 11, 1, 0];
+    1020 ACME Expiries => Expire(&[[4600, 0, 3], [4610, 0, 2], [4620, 0, 1]]);
+    4600 ACME Sweep => Swept(1, 0, 0);
+    4610 ACME Sweep => Swept(1, 0, 0);
     4620 ACME Sweep => Swept(1, 1, 1), [0, 0, 12, 1, 1];
-    4620 ACME Expiries => Expire(&[]), [0, 0, 12, 1, 1];
+    4620 ACME Expiries => Expire(&[]);
 };
 
 // Of one moment, acme's come before beta's. One that is complete, one that ends and a final upload leave the list or
 // never come into it; one that has expired stays in it until the sweep.
-static LISTED_BY_TENANT: [Step; 13] = steps! {
-    1000 BETA Post(Some(9)) => Created(1, Some(4600)), [0, 0, 12, 0, 0];
-    1000 ACME Post(Some(9)) => Created(1, Some(4600)), [0, 0, 12, 0, 0];
-    1000 ACME Partial(Some(1)) => Created(2, Some(4600)), [0, 0, 12, 0, 0];
-    1000 ACME Patch(2, 0, b"a") => Appended(1, Some(4600)), [1, 0, 11, 1, 0];
-    1000 ACME Join(&[Some(2)]) => Created(3, None), [1, 0, 11, 1, 0];
-    1000 ACME Post(Some(1)) => Created(4, Some(4600)), [1, 0, 11, 1, 0];
-    900 ACME Post(Some(1)) => Created(5, Some(4500)), [1, 0, 11, 1, 0];
-    4499 BETA Expiries => Expire(&[[4500, 0, 5], [4600, 0, 1], [4600, 0, 2], [4600, 0, 4], [4600, 1, 1]]), [1, 0, 11, 1, 0];
+static LISTED_BY_TENANT: [Step; 12] = steps! {
+    1000 BETA Post(Some(9)) => Created(1, Some(4600));
+    1000 ACME Post(Some(9)) => Created(1, Some(4600));
+    1000 ACME Part(Some(1), b"a") => Begun(2, Some(4600), 1, Some(4600)), [1, 0, 11, 1, 0];
+    1000 ACME Join(&[Some(2)]) => Created(3, None);
+    1000 ACME Post(Some(1)) => Created(4, Some(4600));
+    900 ACME Post(Some(1)) => Created(5, Some(4500));
+    4499 BETA Expiries => Expire(&[[4500, 0, 5], [4600, 0, 1], [4600, 0, 2], [4600, 0, 4], [4600, 1, 1]]);
     4499 ACME Patch(4, 0, b"b") => Appended(1, None), [2, 0, 10, 2, 0];
-    4500 ACME Delete(1) => Removed(0, 0), [2, 0, 10, 2, 0];
-    4500 BETA Expiries => Expire(&[[4500, 0, 5], [4600, 0, 2], [4600, 1, 1]]), [2, 0, 10, 2, 0];
-    4599 ACME Sweep => Swept(1, 0, 0), [2, 0, 10, 2, 0];
-    4599 BETA Expiries => Expire(&[[4600, 0, 2], [4600, 1, 1]]), [2, 0, 10, 2, 0];
+    4500 ACME Delete(1) => Removed(0, 0);
+    4500 BETA Expiries => Expire(&[[4500, 0, 5], [4600, 0, 2], [4600, 1, 1]]);
+    4599 ACME Sweep => Swept(1, 0, 0);
+    4599 BETA Expiries => Expire(&[[4600, 0, 2], [4600, 1, 1]]);
 };
 
 #[test]

@@ -2,11 +2,11 @@
 
 use crate::tests::books::{ACME, BETA, HELLO, NOTHING, numbers};
 use crate::tests::steps::Call::{
-    Checked, Delete, Get, Head, Patch, PatchOf, Post, PostChecked, PostUntyped, PostWith, Sweep,
-    Untyped,
+    Begin, Checked, Delete, Get, Head, Patch, PatchOf, Post, PostChecked, PostUntyped, PostWith,
+    Sweep, Untyped,
 };
 use crate::tests::steps::Told::{
-    Appended, Bytes, Created, Refused, RefusedPatch, Removed, Row, Swept,
+    Appended, Begun, Bytes, Created, Refused, RefusedPatch, Removed, Row, Swept,
 };
 use crate::tests::steps::{Step, run, steps};
 use tus_text::Checksum;
@@ -14,16 +14,15 @@ use upload_book::{Kind, Refusal};
 use worked_example::NUMBERS;
 
 // Five bytes, a wrong offset, bytes past the length, and the other five.
-static IN_TWO_PIECES: [Step; 9] = steps! {
-    1000 ACME Post(Some(10)) => Created(1, Some(4600)), [0, 0, 12, 0, 0];
-    1000 ACME Patch(1, 0, b"hello") => Appended(5, Some(4600)), [2, 0, 10, 2, 0];
-    1000 ACME Patch(1, 3, b"x") => RefusedPatch(Refusal::Offset, Some(4600)), [2, 0, 10, 2, 0];
-    1000 ACME Patch(1, 5, b"worlds") => RefusedPatch(Refusal::TooLong, Some(4600)), [2, 0, 10, 2, 0];
-    1000 ACME Head(1) => Row(Kind::Plain, 5, Some(10), Some(4600)), [2, 0, 10, 2, 0];
-    1000 ACME Get(1) => Refused(Refusal::Unfinished), [2, 0, 10, 2, 0];
+static IN_TWO_PIECES: [Step; 8] = steps! {
+    1000 ACME Begin(Some(10), b"hello") => Begun(1, Some(4600), 5, Some(4600)), [2, 0, 10, 2, 0];
+    1000 ACME Patch(1, 3, b"x") => RefusedPatch(Refusal::Offset, Some(4600));
+    1000 ACME Patch(1, 5, b"worlds") => RefusedPatch(Refusal::TooLong, Some(4600));
+    1000 ACME Head(1) => Row(Kind::Plain, 5, Some(10), Some(4600));
+    1000 ACME Get(1) => Refused(Refusal::Unfinished);
     1000 ACME Patch(1, 5, b"world") => Appended(10, None), [3, 0, 9, 3, 0];
-    9000 ACME Head(1) => Row(Kind::Plain, 10, Some(10), None), [3, 0, 9, 3, 0];
-    9000 ACME Get(1) => Bytes(b"helloworld"), [3, 0, 9, 3, 0];
+    9000 ACME Head(1) => Row(Kind::Plain, 10, Some(10), None);
+    9000 ACME Get(1) => Bytes(b"helloworld");
 };
 
 #[test]
@@ -31,12 +30,11 @@ fn an_upload_in_two_pieces(rt: HostRuntime) {
     run(&rt, rt.alloc(), NUMBERS, &IN_TWO_PIECES);
 }
 
-static WITHOUT_BYTES: [Step; 5] = steps! {
-    1000 ACME Post(Some(0)) => Created(1, None), [0, 0, 12, 0, 0];
-    1000 ACME Patch(1, 0, b"") => Appended(0, None), [0, 0, 12, 0, 0];
-    1000 ACME Head(1) => Row(Kind::Plain, 0, Some(0), None), [0, 0, 12, 0, 0];
-    9000 ACME Get(1) => Bytes(b""), [0, 0, 12, 0, 0];
-    9000 ACME Sweep => Swept(0, 0, 0), [0, 0, 12, 0, 0];
+static WITHOUT_BYTES: [Step; 4] = steps! {
+    1000 ACME Begin(Some(0), b"") => Begun(1, None, 0, None);
+    1000 ACME Head(1) => Row(Kind::Plain, 0, Some(0), None);
+    9000 ACME Get(1) => Bytes(b"");
+    9000 ACME Sweep => Swept(0, 0, 0);
 };
 
 #[test]
@@ -46,11 +44,11 @@ fn an_upload_without_bytes(rt: HostRuntime) {
 
 // A PATCH at an earlier moment leaves the end, and no end is past the year 9999.
 static ENDS_RISE: [Step; 5] = steps! {
-    1000 ACME Post(Some(10)) => Created(1, Some(4600)), [0, 0, 12, 0, 0];
+    1000 ACME Post(Some(10)) => Created(1, Some(4600));
     500 ACME Patch(1, 0, b"a") => Appended(1, Some(4600)), [1, 0, 11, 1, 0];
-    2000 ACME Patch(1, 1, b"b") => Appended(2, Some(5600)), [1, 0, 11, 1, 0];
-    253_402_300_799 ACME Post(Some(10)) => Created(2, Some(253_402_300_799)), [1, 0, 11, 1, 0];
-    253_402_300_799 ACME Head(2) => Refused(Refusal::Gone), [1, 0, 11, 1, 0];
+    2000 ACME Patch(1, 1, b"b") => Appended(2, Some(5600));
+    253_402_300_799 ACME Post(Some(10)) => Created(2, Some(253_402_300_799));
+    253_402_300_799 ACME Head(2) => Refused(Refusal::Gone);
 };
 
 #[test]
@@ -59,12 +57,12 @@ fn the_expiry_is_never_lowered(rt: HostRuntime) {
 }
 
 static EXPIRED: [Step; 6] = steps! {
-    1000 ACME Post(Some(10)) => Created(1, Some(4600)), [0, 0, 12, 0, 0];
-    4599 ACME Head(1) => Row(Kind::Plain, 0, Some(10), Some(4600)), [0, 0, 12, 0, 0];
-    4600 ACME Head(1) => Refused(Refusal::Gone), [0, 0, 12, 0, 0];
-    4600 ACME Patch(1, 0, b"hello") => RefusedPatch(Refusal::Gone, None), [0, 0, 12, 0, 0];
-    1000 ACME Head(2) => Refused(Refusal::Unknown), [0, 0, 12, 0, 0];
-    1000 BETA Head(1) => Refused(Refusal::Unknown), [0, 0, 12, 0, 0];
+    1000 ACME Post(Some(10)) => Created(1, Some(4600));
+    4599 ACME Head(1) => Row(Kind::Plain, 0, Some(10), Some(4600));
+    4600 ACME Head(1) => Refused(Refusal::Gone);
+    4600 ACME Patch(1, 0, b"hello") => RefusedPatch(Refusal::Gone, None);
+    1000 ACME Head(2) => Refused(Refusal::Unknown);
+    1000 BETA Head(1) => Refused(Refusal::Unknown);
 };
 
 #[test]
@@ -74,13 +72,13 @@ fn an_upload_expires(rt: HostRuntime) {
 
 // A length that is told late: with a refused PATCH it is not kept, and once kept it stays.
 static LENGTH_TOLD_LATE: [Step; 7] = steps! {
-    1000 ACME Post(None) => Created(1, Some(4600)), [0, 0, 12, 0, 0];
-    1000 ACME PatchOf(1, 1, 9, b"") => RefusedPatch(Refusal::Offset, Some(4600)), [0, 0, 12, 0, 0];
-    1000 ACME Head(1) => Row(Kind::Plain, 0, None, Some(4600)), [0, 0, 12, 0, 0];
+    1000 ACME Post(None) => Created(1, Some(4600));
+    1000 ACME PatchOf(1, 1, 9, b"") => RefusedPatch(Refusal::Offset, Some(4600));
+    1000 ACME Head(1) => Row(Kind::Plain, 0, None, Some(4600));
     1000 ACME PatchOf(1, 0, 5, b"abcde") => Appended(5, None), [2, 0, 10, 2, 0];
-    1000 ACME PatchOf(1, 5, 6, b"") => RefusedPatch(Refusal::LengthFixed, None), [2, 0, 10, 2, 0];
-    1000 ACME PatchOf(1, 5, 5, b"") => Appended(5, None), [2, 0, 10, 2, 0];
-    1000 ACME Head(1) => Row(Kind::Plain, 5, Some(5), None), [2, 0, 10, 2, 0];
+    1000 ACME PatchOf(1, 5, 6, b"") => RefusedPatch(Refusal::LengthFixed, None);
+    1000 ACME PatchOf(1, 5, 5, b"") => Appended(5, None);
+    1000 ACME Head(1) => Row(Kind::Plain, 5, Some(5), None);
 };
 
 #[test]
@@ -89,16 +87,16 @@ fn an_upload_is_told_its_length(rt: HostRuntime) {
 }
 
 static CONTENTS: [Step; 10] = steps! {
-    1000 ACME Post(Some(5)) => Created(1, Some(4600)), [0, 0, 12, 0, 0];
-    1000 ACME Post(Some(0)) => Created(2, None), [0, 0, 12, 0, 0];
-    1000 ACME Post(None) => Created(3, Some(4600)), [0, 0, 12, 0, 0];
-    1000 ACME Get(1) => Refused(Refusal::Unfinished), [0, 0, 12, 0, 0];
-    9000 ACME Get(2) => Bytes(b""), [0, 0, 12, 0, 0];
-    4599 ACME Get(3) => Refused(Refusal::Unfinished), [0, 0, 12, 0, 0];
-    4600 ACME Get(3) => Refused(Refusal::Gone), [0, 0, 12, 0, 0];
-    1000 ACME Get(4) => Refused(Refusal::Unknown), [0, 0, 12, 0, 0];
+    1000 ACME Post(Some(5)) => Created(1, Some(4600));
+    1000 ACME Post(Some(0)) => Created(2, None);
+    1000 ACME Post(None) => Created(3, Some(4600));
+    1000 ACME Get(1) => Refused(Refusal::Unfinished);
+    9000 ACME Get(2) => Bytes(b"");
+    4599 ACME Get(3) => Refused(Refusal::Unfinished);
+    4600 ACME Get(3) => Refused(Refusal::Gone);
+    1000 ACME Get(4) => Refused(Refusal::Unknown);
     1000 ACME Patch(1, 0, b"abcde") => Appended(5, None), [2, 0, 10, 2, 0];
-    9000 ACME Get(1) => Bytes(b"abcde"), [2, 0, 10, 2, 0];
+    9000 ACME Get(1) => Bytes(b"abcde");
 };
 
 #[test]
@@ -107,13 +105,12 @@ fn contents(rt: HostRuntime) {
 }
 
 // Without its content type, a PATCH is refused after an upload that is not there, and before a wrong offset.
-static WITHOUT_TYPE: [Step; 6] = steps! {
-    1000 ACME Post(Some(10)) => Created(1, Some(4600)), [0, 0, 12, 0, 0];
-    1000 ACME Patch(1, 0, b"a") => Appended(1, Some(4600)), [1, 0, 11, 1, 0];
-    1000 ACME Untyped(1, b"hello") => RefusedPatch(Refusal::Media, Some(4600)), [1, 0, 11, 1, 0];
-    1000 ACME Untyped(2, b"hello") => RefusedPatch(Refusal::Unknown, None), [1, 0, 11, 1, 0];
-    1000 ACME Untyped(0, b"hello") => RefusedPatch(Refusal::Unknown, None), [1, 0, 11, 1, 0];
-    1000 BETA Untyped(1, b"hello") => RefusedPatch(Refusal::Unknown, None), [1, 0, 11, 1, 0];
+static WITHOUT_TYPE: [Step; 5] = steps! {
+    1000 ACME Begin(Some(10), b"a") => Begun(1, Some(4600), 1, Some(4600)), [1, 0, 11, 1, 0];
+    1000 ACME Untyped(1, b"hello") => RefusedPatch(Refusal::Media, Some(4600));
+    1000 ACME Untyped(2, b"hello") => RefusedPatch(Refusal::Unknown, None);
+    1000 ACME Untyped(0, b"hello") => RefusedPatch(Refusal::Unknown, None);
+    1000 BETA Untyped(1, b"hello") => RefusedPatch(Refusal::Unknown, None);
 };
 
 #[test]
@@ -123,15 +120,15 @@ fn refused_patches(rt: HostRuntime) {
 
 // A checksum is asked after the length and before the quota: only bytes of that digest are kept.
 static CHECKSUMS: [Step; 9] = steps! {
-    1000 ACME Post(Some(64)) => Created(1, Some(4600)), [0, 0, 12, 0, 0];
-    1000 ACME Checked(1, 0, HELLO, b"hellp") => RefusedPatch(Refusal::Mismatch, Some(4600)), [0, 0, 12, 0, 0];
-    1000 ACME Checked(1, 0, Checksum::Other, b"hello") => RefusedPatch(Refusal::Algorithm, Some(4600)), [0, 0, 12, 0, 0];
+    1000 ACME Post(Some(64)) => Created(1, Some(4600));
+    1000 ACME Checked(1, 0, HELLO, b"hellp") => RefusedPatch(Refusal::Mismatch, Some(4600));
+    1000 ACME Checked(1, 0, Checksum::Other, b"hello") => RefusedPatch(Refusal::Algorithm, Some(4600));
     2000 ACME Checked(1, 0, HELLO, b"hello") => Appended(5, Some(5600)), [2, 0, 10, 2, 0];
-    2000 ACME Checked(1, 5, NOTHING, b"") => Appended(5, Some(5600)), [2, 0, 10, 2, 0];
-    2000 ACME Checked(1, 5, HELLO, b"") => RefusedPatch(Refusal::Mismatch, Some(5600)), [2, 0, 10, 2, 0];
-    2000 ACME Checked(1, 5, Checksum::Other, b"012345678901234567890123456789012345678901234567890123456789") => RefusedPatch(Refusal::TooLong, Some(5600)), [2, 0, 10, 2, 0];
-    2000 ACME Checked(1, 5, HELLO, b"01234567890123456789012345678") => RefusedPatch(Refusal::Mismatch, Some(5600)), [2, 0, 10, 2, 0];
-    2000 ACME Patch(1, 5, b"01234567890123456789012345678") => RefusedPatch(Refusal::Quota, Some(5600)), [2, 0, 10, 2, 0];
+    2000 ACME Checked(1, 5, NOTHING, b"") => Appended(5, Some(5600));
+    2000 ACME Checked(1, 5, HELLO, b"") => RefusedPatch(Refusal::Mismatch, Some(5600));
+    2000 ACME Checked(1, 5, Checksum::Other, b"012345678901234567890123456789012345678901234567890123456789") => RefusedPatch(Refusal::TooLong, Some(5600));
+    2000 ACME Checked(1, 5, HELLO, b"01234567890123456789012345678") => RefusedPatch(Refusal::Mismatch, Some(5600));
+    2000 ACME Patch(1, 5, b"01234567890123456789012345678") => RefusedPatch(Refusal::Quota, Some(5600));
 };
 
 #[test]
@@ -141,27 +138,27 @@ fn checksums(rt: HostRuntime) {
 
 // The first bytes of an upload come with its creation, and are paid; a refused creation uses no id.
 static WITH_UPLOAD: [Step; 15] = steps! {
-    1000 ACME PostUntyped(Some(4), b"hello") => Refused(Refusal::Media), [0, 0, 12, 0, 0];
-    1000 ACME PostWith(Some(4), b"hello") => Refused(Refusal::TooLong), [0, 0, 12, 0, 0];
-    1000 ACME PostWith(Some(65), b"hello") => Refused(Refusal::TooLong), [0, 0, 12, 0, 0];
-    1000 ACME PostChecked(Some(10), Checksum::Other, b"hello") => Refused(Refusal::Algorithm), [0, 0, 12, 0, 0];
-    1000 ACME PostChecked(Some(10), HELLO, b"hellp") => Refused(Refusal::Mismatch), [0, 0, 12, 0, 0];
+    1000 ACME PostUntyped(Some(4), b"hello") => Refused(Refusal::Media);
+    1000 ACME PostWith(Some(4), b"hello") => Refused(Refusal::TooLong);
+    1000 ACME PostWith(Some(65), b"hello") => Refused(Refusal::TooLong);
+    1000 ACME PostChecked(Some(10), Checksum::Other, b"hello") => Refused(Refusal::Algorithm);
+    1000 ACME PostChecked(Some(10), HELLO, b"hellp") => Refused(Refusal::Mismatch);
     1000 ACME PostChecked(Some(10), HELLO, b"hello") => Created(1, Some(4600)), [2, 0, 10, 2, 0];
     1000 ACME Patch(1, 5, b"world") => Appended(10, None), [3, 0, 9, 3, 0];
-    9000 ACME Get(1) => Bytes(b"helloworld"), [3, 0, 9, 3, 0];
+    9000 ACME Get(1) => Bytes(b"helloworld");
     1000 ACME PostWith(Some(5), b"abcde") => Created(2, None), [5, 0, 7, 5, 0];
-    1000 ACME PostWith(None, b"") => Created(3, Some(4600)), [5, 0, 7, 5, 0];
-    1000 ACME PostWith(Some(20), b"0123456789012") => Refused(Refusal::Quota), [5, 0, 7, 5, 0];
-    1000 BETA PostWith(Some(20), b"01234567890123456") => Refused(Refusal::Quota), [5, 0, 7, 5, 0];
+    1000 ACME PostWith(None, b"") => Created(3, Some(4600));
+    1000 ACME PostWith(Some(20), b"0123456789012") => Refused(Refusal::Quota);
+    1000 BETA PostWith(Some(20), b"01234567890123456") => Refused(Refusal::Quota);
     1000 BETA PostWith(Some(20), b"0123456789012345") => Created(1, Some(4600)), [5, 4, 3, 9, 0];
-    1000 ACME PostChecked(Some(20), HELLO, b"0123456789012") => Refused(Refusal::Mismatch), [5, 4, 3, 9, 0];
+    1000 ACME PostChecked(Some(20), HELLO, b"0123456789012") => Refused(Refusal::Mismatch);
     1000 ACME Delete(2) => Removed(2, 2), [3, 4, 5, 9, 2];
 };
 
 // Blocks that all tenants may be charged in all are used up by a creation too.
 static SPENT_BY_CREATIONS: [Step; 3] = steps! {
     1000 ACME PostWith(Some(10), b"hello") => Created(1, Some(4600)), [2, 0, 10, 2, 0];
-    1000 BETA PostWith(Some(10), b"hello") => Refused(Refusal::Spent), [2, 0, 10, 2, 0];
+    1000 BETA PostWith(Some(10), b"hello") => Refused(Refusal::Spent);
     1000 BETA PostWith(Some(10), b"hell") => Created(1, Some(4600)), [2, 1, 9, 3, 0];
 };
 
@@ -178,29 +175,29 @@ fn creations_with_upload(rt: HostRuntime) {
 
 // A refused creation uses no id.
 static TOO_LONG: [Step; 3] = steps! {
-    1000 ACME Post(Some(65)) => Refused(Refusal::TooLong), [0, 0, 12, 0, 0];
-    1000 ACME Post(Some(64)) => Created(1, Some(4600)), [0, 0, 12, 0, 0];
-    1000 ACME Head(2) => Refused(Refusal::Unknown), [0, 0, 12, 0, 0];
+    1000 ACME Post(Some(65)) => Refused(Refusal::TooLong);
+    1000 ACME Post(Some(64)) => Created(1, Some(4600));
+    1000 ACME Head(2) => Refused(Refusal::Unknown);
 };
 
 // An id is used up, also where its upload has ended.
 static TWO_IDS: [Step; 4] = steps! {
-    1000 ACME Post(Some(1)) => Created(1, Some(4600)), [0, 0, 12, 0, 0];
-    1000 ACME Delete(1) => Removed(0, 0), [0, 0, 12, 0, 0];
-    1000 ACME Post(Some(1)) => Created(2, Some(4600)), [0, 0, 12, 0, 0];
-    1000 ACME Post(Some(1)) => Refused(Refusal::Spent), [0, 0, 12, 0, 0];
+    1000 ACME Post(Some(1)) => Created(1, Some(4600));
+    1000 ACME Delete(1) => Removed(0, 0);
+    1000 ACME Post(Some(1)) => Created(2, Some(4600));
+    1000 ACME Post(Some(1)) => Refused(Refusal::Spent);
 };
 
 // An expired upload counts until a sweep ends it, and one that was ended does not. Damaged bytes are told as such first.
 static ONE_UPLOAD: [Step; 8] = steps! {
-    1000 ACME Post(Some(1)) => Created(1, Some(4600)), [0, 0, 12, 0, 0];
-    4600 ACME Post(Some(1)) => Refused(Refusal::Uploads), [0, 0, 12, 0, 0];
-    4600 ACME PostChecked(Some(5), Checksum::Other, b"hello") => Refused(Refusal::Algorithm), [0, 0, 12, 0, 0];
-    4600 ACME PostChecked(Some(5), HELLO, b"hellp") => Refused(Refusal::Mismatch), [0, 0, 12, 0, 0];
-    4600 ACME Sweep => Swept(1, 0, 0), [0, 0, 12, 0, 0];
-    4600 ACME Post(Some(1)) => Created(2, Some(8200)), [0, 0, 12, 0, 0];
-    4600 ACME Delete(2) => Removed(0, 0), [0, 0, 12, 0, 0];
-    4600 ACME Post(Some(1)) => Created(3, Some(8200)), [0, 0, 12, 0, 0];
+    1000 ACME Post(Some(1)) => Created(1, Some(4600));
+    4600 ACME Post(Some(1)) => Refused(Refusal::Uploads);
+    4600 ACME PostChecked(Some(5), Checksum::Other, b"hello") => Refused(Refusal::Algorithm);
+    4600 ACME PostChecked(Some(5), HELLO, b"hellp") => Refused(Refusal::Mismatch);
+    4600 ACME Sweep => Swept(1, 0, 0);
+    4600 ACME Post(Some(1)) => Created(2, Some(8200));
+    4600 ACME Delete(2) => Removed(0, 0);
+    4600 ACME Post(Some(1)) => Created(3, Some(8200));
 };
 
 #[test]

@@ -1,9 +1,8 @@
 //! The uploads of a book as pieces of a snapshot of it.
-use crate::tests::books::{ACME, new_book};
+use crate::tests::books::ACME;
 use crate::tests::restores::{joined, requested};
 use std::process::Abort;
 use upload_book::{Book, KeptSegment, KeptUpload, Kind, Moment};
-use worked_example::NUMBERS;
 
 /// An upload as a piece: its id, what it is for, its length, its segments, and the second at which it expires.
 type Piece<'a> = (
@@ -128,14 +127,12 @@ static JOINED: [Piece<'static>; 4] = [
 
 #[test]
 fn a_book_is_lent_in_pieces(rt: HostRuntime) {
-    let mut book = new_book(&rt, rt.alloc(), NUMBERS);
-    requested(&rt, &mut book);
+    let book = requested(&rt, rt.alloc());
     assert_pieces(&rt, &book, &OWN, 6);
 }
 
 #[test]
 fn finals_are_lent_in_pieces(rt: HostRuntime) {
-    let mut book = new_book(&rt, rt.alloc(), NUMBERS);
-    joined(&rt, &mut book);
+    let book = joined(&rt, rt.alloc());
     assert_pieces(&rt, &book, &JOINED, 7);
 }
