@@ -3,7 +3,7 @@ use Rattle.std.proofs.Common.{◌≡◌, ℕ, zero, suc, ◌+◌, ◌<◌, ◌�
 use Rattle.std.specs.List.{filter, position, remove}
 use Rattle.std.specs.List.Sorted.{IsStrictlyIncreasing}
 use Rattle.std.proofs.lemmas.Bool.Decides.{eqb_tells, nat_tests}
-use Rattle.std.proofs.lemmas.List.Edits.{get_or-remove_below, length-remove}
+use Rattle.std.proofs.lemmas.List.Edits.{get_or-remove_above, length-remove}
 use Rattle.std.proofs.lemmas.List.Elements.{All-get_or}
 use Rattle.std.proofs.lemmas.List.Quantifiers.{position-Some}
 use Rattle.upload_book.specs.declared.head_row.HeadRow.{HeadRow}
@@ -105,13 +105,13 @@ look-ended part id now some given is = visible_in-given expiry part id now no_ro
 abbrev pub stays : ℕ → Entry HeadRow → Bool
 stays now e = not (has_expired now e.kept.expires)
 
--- Of a part, the rows that have expired were taken out up to a place: those before it stay, and what stays of all is what
+-- Of a part, the rows that have expired were taken out from a place on: those behind it stay, and what stays of all is what
 -- stays of those that are left.
-pub record IsSweptTo (old r : Rows) (now place : ℕ) : Type 0 where
+pub record IsSweptFrom (old r : Rows) (now place : ℕ) : Type 0 where
   pub part : r.part ≡ record old.part { uploads = r.part.uploads }
   pub room : r.room ≡ old.room
   pub left : filter (stays now) r.part.uploads ≡ filter (stays now) old.part.uploads
-  pub seen : (k : ℕ) (d : Entry HeadRow) → k < place → stays now (get_or r.part.uploads k d) ≡ true
+  pub seen : (k : ℕ) (d : Entry HeadRow) → place ≤ k → k < length r.part.uploads → stays now (get_or r.part.uploads k d) ≡ true
   pub within : place ≤ length r.part.uploads
 
 -- what does not pass is not missed by a filter
@@ -120,35 +120,39 @@ filter-without p [] i d within fails = absurd (omega arith)
 filter-without p (x ∷ xs) zero d within fails = rw fails refl
 filter-without p (x ∷ xs) (suc i) d within fails = ap (λ rest. cond (p x) (x ∷ rest) rest) (filter-without p xs i d (omega arith) fails)
 
--- one that has expired is taken out
-pub IsSweptTo-out : (old r after : Rows) (now place : ℕ) → IsSweptTo old r now place → place < length r.part.uploads → ((d : Entry HeadRow) → true ≡ has_expired now (get_or r.part.uploads place d).kept.expires) → after ≡ record r { part = record r.part { uploads = remove r.part.uploads place } } → IsSweptTo old after now place
-IsSweptTo-out old r after now place f within over is =
+-- the one before it is taken out where it has expired,
+pub IsSweptFrom-out : (old r after : Rows) (now from place : ℕ) → IsSweptFrom old r now from → from ≡ place + 1 → ((d : Entry HeadRow) → true ≡ has_expired now (get_or r.part.uploads place d).kept.expires) → after ≡ record r { part = record r.part { uploads = remove r.part.uploads place } } → IsSweptFrom old after now place
+IsSweptFrom-out old r after now from place f next over is =
     let rows : after.part.uploads ≡ remove r.part.uploads place = ap (λ (r : Rows). r.part.uploads) is in
     let fails : stays now (get_or r.part.uploads place no_row) ≡ false = ap not (sym (over no_row)) in
+    let within : place < length r.part.uploads = omega (arith, f.within) in
+    let fewer = length-remove r.part.uploads place within in
     record {
       part = ap (λ (r : Rows). r.part) is ∙ ap (λ (p : HeadPart). let q : HeadPart = record p { uploads = remove r.part.uploads place } in q) f.part ∙ ap (λ (rows : List (Entry HeadRow)). let q : HeadPart = record old.part { uploads = rows } in q) (sym rows);
       room = ap (λ (r : Rows). r.room) is ∙ f.room;
       left = ap (filter (stays now)) rows ∙ filter-without (stays now) r.part.uploads place no_row within fails ∙ f.left;
-      seen = λ k d below. ap (λ rows. stays now (get_or rows k d)) rows ∙ ap (stays now) (get_or-remove_below r.part.uploads place d k below within) ∙ f.seen k d below;
-      within = omega (arith, ap length rows, length-remove r.part.uploads place within);
+      seen = λ k d above below.
+          let there : k < length (remove r.part.uploads place) = omega (arith, below, ap length rows) in
+          ap (λ rows. stays now (get_or rows k d)) rows ∙ ap (stays now) (get_or-remove_above r.part.uploads place d k above within) ∙ f.seen (k + 1) d (omega (arith, above)) (omega (arith, there, fewer));
+      within = omega (arith, ap length rows, fewer);
     }
 
--- one that is not is passed
-pub IsSweptTo-passed : (old r : Rows) (now place : ℕ) → IsSweptTo old r now place → place < length r.part.uploads → ((d : Entry HeadRow) → false ≡ has_expired now (get_or r.part.uploads place d).kept.expires) → IsSweptTo old r now (place + 1)
-IsSweptTo-passed old r now place f within fresh = record {
+-- and stays where it has not
+pub IsSweptFrom-passed : (old r : Rows) (now from place : ℕ) → IsSweptFrom old r now from → from ≡ place + 1 → ((d : Entry HeadRow) → false ≡ has_expired now (get_or r.part.uploads place d).kept.expires) → IsSweptFrom old r now place
+IsSweptFrom-passed old r now from place f next fresh = record {
   part = f.part;
   room = f.room;
   left = f.left;
-  seen = λ k d below. elim (eqb_tells k place) [
+  seen = λ k d above below. elim (eqb_tells k place) [
     | inl same ↦ ap (λ k. stays now (get_or r.part.uploads k d)) same.1 ∙ ap not (sym (fresh d))
-    | inr differs ↦ f.seen k d (let other = differs.1 in omega arith)
+    | inr differs ↦ f.seen k d (let other = differs.1 in omega (arith, above)) below
   ];
-  within = omega arith;
+  within = omega (arith, f.within);
 }
 
 -- at the end the part is swept
-pub IsSweptTo-all : (old r : Rows) (now place : ℕ) → IsSweptTo old r now place → length r.part.uploads ≤ place → r ≡ record old { part = record old.part { uploads = filter (stays now) old.part.uploads } }
-IsSweptTo-all old r now place f all =
-    let rows : r.part.uploads ≡ filter (stays now) old.part.uploads = sym (filter_all (stays now) r.part.uploads (λ k d below. f.seen k d (omega arith))) ∙ f.left in
+pub IsSweptFrom-all : (old r : Rows) (now : ℕ) → IsSweptFrom old r now 0 → r ≡ record old { part = record old.part { uploads = filter (stays now) old.part.uploads } }
+IsSweptFrom-all old r now f =
+    let rows : r.part.uploads ≡ filter (stays now) old.part.uploads = sym (filter_all (stays now) r.part.uploads (λ k d below. f.seen k d (omega arith) below)) ∙ f.left in
     let part : r.part ≡ record old.part { uploads = filter (stays now) old.part.uploads } = f.part ∙ ap (λ (rows : List (Entry HeadRow)). let q : HeadPart = record old.part { uploads = rows } in q) rows in
     ap₂ (λ (p : HeadPart) (n : ℕ). let q : Rows = record { part = p; room = n } in q) part f.room

@@ -111,16 +111,15 @@ impl HeadRows {
         }
     }
 
-    /// Takes out the rows of all uploads that have expired at this moment.
+    /// Takes out the rows of all uploads that have expired at this moment, the last one first: so only rows that stay move.
     pub(crate) fn sweep(&mut self, now: Moment)
         ensures { self.new ≡ record self.old { part = without_expired now self.old.part } }
     {
-        let mut place = 0;
-        while place < self.count() {
-            if self.has_expired(place, now) {
-                self.take_out(place);
-            } else {
-                place += 1;
+        let mut from = self.count();
+        while from > 0 {
+            from -= 1;
+            if self.has_expired(from, now) {
+                self.take_out(from);
             }
         }
     }

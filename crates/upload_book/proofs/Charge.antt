@@ -6,4 +6,5 @@ pub mod PriceLemmas
 pub mod ChargeLemmas
 pub mod RoomLemmas
 pub mod ChargeAfterLemmas
+pub mod PriceElsewhere
 pub mod StoreChargeAfter

@@ -1,7 +1,7 @@
 -- When uploads expire: the list of their ends, and sweeps.
 pub mod ExpiryLemmas
 pub mod ExpirySteps
-pub mod FirstEnds
+pub mod ExpiredEnds
 pub mod EndsLemmas
 pub mod BookEnds
 pub mod FewEnds

@@ -1,15 +1,22 @@
 //! What a tenant will pay once uploads have ended, found before any of them ends, and without memory.
 //!
 //! A tenant pays each origin once: the most blocks that a piece of it takes. So of a piece that ends its tenant no
-//! longer pays the blocks that it takes beyond those of every other piece of its origin.
-ghost use Rattle.std.specs.Prelude.{◌≡◌, ◌+◌, ◌<◌, ◌^◌, Some, length};
+//! longer pays the blocks that it takes beyond those of every other piece of its origin. A block that is held once tells
+//! that there is none, so only pieces that uploads share are sought.
+ghost use Rattle.std.specs.Prelude.{◌≡◌, ◌+◌, ◌<◌, ◌^◌, Some, get_or, length};
 ghost use Rattle.std.specs.List.{remove};
 ghost use Rattle.upload_book.specs.Charge.{price};
-ghost use Rattle.upload_book.specs.inside.ChargeAfter.{cost_of, left, left_beside, left_to, sources_kept, IsPaid};
+ghost use Rattle.upload_book.specs.declared.pieces.Piece.{Piece};
+ghost use Rattle.upload_book.specs.inside.ChargeAfter.{cost_of, left, left_beside, left_to, price_elsewhere, sources_kept, AreCounted, IsPaid};
+ghost use Rattle.upload_book.specs.inside.Kept.{stored_tenant_of};
+ghost use Rattle.upload_book.specs.Stored as stored;
+ghost use Rattle.upload_book.specs.Stored.{pieces_of};
+ghost use Rattle.upload_book.specs.TenantBook.{Entry};
 
 use crate::moment::Moment;
 use crate::stored_tenant::StoredTenant;
 use crate::stored_upload::StoredUpload;
+use block_pool::Pool;
 
 /// Which uploads have ended: those that had expired at this moment, or none where there is no moment.
 #[derive(Clone, Copy, Debug)]
@@ -19,65 +26,98 @@ pub(crate) struct Ended {
 
 impl StoredTenant {
     /// What the tenant will pay, in blocks of this size, once the upload at a place has ended. It goes over the
-    /// tenant's pieces once for each piece of this upload.
-    pub(crate) fn charge_without(&self, place: usize, size: u64) -> u64
+    /// tenant's pieces once for each piece of this upload whose blocks others hold too.
+    pub(crate) fn charge_without(&self, place: usize, size: u64, pool: &Pool) -> u64
         requires place { place < length self.now.uploads.items }
         requires size { 0 < size }
         requires paid { IsPaid size self.now }
+        requires counted { AreCounted pool.now (pieces_of (stored_tenant_of self.now)) }
         ensures { result ≡ cost_of size self.now.next (remove self.now.uploads.items place) }
     {
         let none = Ended { at: None };
-        self.charge - self.released(place, &none, size)
+        self.charge - self.released(place, &none, size, pool)
     }
 
     /// What the tenant will pay, in blocks of this size, once its uploads that have expired at `now` have ended. It
-    /// goes over the uploads once, and over the tenant's pieces once for each piece of an upload that has expired.
-    pub(crate) fn charge_swept(&self, now: Moment, size: u64) -> u64
+    /// goes over the uploads once, and over the tenant's pieces once for each piece of an upload that has expired whose
+    /// blocks others hold too.
+    pub(crate) fn charge_swept(&self, now: Moment, size: u64, pool: &Pool) -> u64
         requires size { 0 < size }
         requires paid { IsPaid size self.now }
+        requires counted { AreCounted pool.now (pieces_of (stored_tenant_of self.now)) }
         ensures { result ≡ cost_of size self.now.next (left (Some now) self.now.uploads.items) }
     {
         let ended = Ended { at: Some(now) };
         let mut released = 0;
         for place in 0..self.uploads.len() {
-            released += self.released_at(place, &ended, size);
+            released += self.released_at(place, &ended, size, pool);
         }
         self.charge - released
     }
 
     // How many blocks the tenant no longer pays once the upload at a place has ended, if it ends, where of those before
     // it the others that end have.
-    fn released_at(&self, place: usize, ended: &Ended, size: u64) -> u64
+    fn released_at(&self, place: usize, ended: &Ended, size: u64, pool: &Pool) -> u64
         requires place { place < length self.now.uploads.items }
         requires size { 0 < size }
         requires paid { IsPaid size self.now }
+        requires counted { AreCounted pool.now (pieces_of (stored_tenant_of self.now)) }
         ensures { cost_of size self.now.next (left_to ended.now.at self.now.uploads.items (place + 1)) + result
             ≡ cost_of size self.now.next (left_to ended.now.at self.now.uploads.items place) }
     {
         if self.uploads[place].is_left(ended) {
             return 0;
         }
-        self.released(place, ended, size)
+        self.released(place, ended, size, pool)
     }
 
     // How many blocks the tenant no longer pays once the upload at a place has ended, where of those before it the
     // others that end have.
-    fn released(&self, place: usize, ended: &Ended, size: u64) -> u64
+    fn released(&self, place: usize, ended: &Ended, size: u64, pool: &Pool) -> u64
         requires place { place < length self.now.uploads.items }
         requires size { 0 < size }
         requires paid { IsPaid size self.now }
+        requires counted { AreCounted pool.now (pieces_of (stored_tenant_of self.now)) }
         ensures { cost_of size self.now.next (left_beside ended.now.at self.now.uploads.items place) + result
             ≡ cost_of size self.now.next (left_to ended.now.at self.now.uploads.items place) }
     {
         let upload = &self.uploads[place];
         let mut released = 0;
         for piece in 0..upload.piece_count() {
-            let origin = upload.origin(piece);
-            let later = upload.price_from(piece + 1, size, origin);
-            let held = later.max(self.price_beside(place, ended, size, origin));
+            let held = self.price_elsewhere(place, piece, ended, size, pool);
             released += upload.blocks(piece, size).saturating_sub(held);
         }
         released
+    }
+
+    // The most blocks that another piece takes of the origin of a piece of the upload at a place: of those behind it, and of
+    // those in the uploads beside, where of those before it the others that end have.
+    fn price_elsewhere(
+        &self,
+        place: usize,
+        piece: usize,
+        ended: &Ended,
+        size: u64,
+        pool: &Pool,
+    ) -> u64
+        requires place { place < length self.now.uploads.items }
+        requires piece { (d : Entry stored.StoredUpload) → piece < length (get_or self.now.uploads.items place d).kept.pieces }
+        requires range { piece + 1 < 2 ^ 64 }
+        requires size { 0 < size }
+        requires counted { AreCounted pool.now (pieces_of (stored_tenant_of self.now)) }
+        ensures { (d : Entry stored.StoredUpload) (x : Piece) → result ≡ price_elsewhere size (get_or self.now.uploads.items place d).kept.pieces piece
+            (sources_kept (left_beside ended.now.at self.now.uploads.items place))
+            (get_or (get_or self.now.uploads.items place d).kept.pieces piece x).origin }
+    {
+        let upload = &self.uploads[place];
+        if let Some(block) = upload.block(piece, 0) {
+            if pool.count(block) == 1 {
+                return 0;
+            }
+        }
+        let origin = upload.origin(piece);
+        let later = upload.price_from(piece + 1, size, origin);
+        later.max(self.price_beside(place, ended, size, origin))
     }
 
     // The most blocks that a piece of this origin takes in the uploads beside the one at a place, where of those

@@ -1,5 +1,5 @@
 //! The uploads that expire, in the order in which they do.
-ghost use Rattle.std.specs.Prelude.{◌≡◌, ◌+◌, ◌<◌, ◌≤◌, true, false, [], ◌∷◌, length, slice_get, Contains, ℕ, None, IfOk, IfSome, IsSome};
+ghost use Rattle.std.specs.Prelude.{◌≡◌, ◌+◌, ◌<◌, ◌≤◌, true, false, [], ◌∷◌, length, slice_get, Contains, ℕ, None, IfOk, IfNone, IfSome, IsSome};
 ghost use Rattle.std.specs.List.Sorted.{IsPartitionPoint, IsPermutation};
 ghost use Rattle.upload_book.specs.ExpiryList.{comes_before, with_end, AreExpiring, Ends, IsAscending, KnowsEnd};
 
@@ -71,11 +71,15 @@ impl ExpiryList {
         self.list.as_slice()
     }
 
-    /// The one that expires first.
-    pub(crate) fn first(&self) -> Option<Expiring>
-        ensures { result ≡ slice_get self.now.list 0 }
+    /// The last of those that expire until a moment, if one does. It is found by halving.
+    pub(crate) fn last_until(&self, now: Moment) -> Option<Expiring>
+        ensures listed { IfSome result (λ x. Contains self.now.list x) }
+        ensures expired { IfSome result (λ x. x.at ≤ now) }
+        ensures none { IfNone result (IfSome (slice_get self.now.list 0) (λ x. now < x.at)) }
     {
-        self.list.first().copied()
+        let count = self.list.partition_point(|expiring| expiring.at <= now);
+        let last = count.checked_sub(1)?;
+        Some(self.list[last])
     }
 
     // Enters one that is not there, at its place in the order, for which there is room. It finds the place by

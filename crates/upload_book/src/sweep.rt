@@ -1,4 +1,4 @@
-ghost use Rattle.std.specs.Prelude.{◌≡◌, ◌≤◌, slice_get, IfNone, IfSome, Some};
+ghost use Rattle.std.specs.Prelude.{◌≡◌, ◌≤◌, Contains, IfNone, IfSome};
 ghost use Rattle.upload_book.specs.Book.{plain_of};
 ghost use Rattle.upload_book.specs.Sweep.{sweep_answer, book_after_sweep, EndsNone, EndsOne};
 
@@ -19,9 +19,8 @@ pub struct Swept {
 
 impl Book {
     /// Ends all uploads that have expired at `now`. Their blocks become free, but for those that another
-    /// upload holds. It takes no memory. It looks at the first upload that expires and at those that it ends. For each of
-    /// these it costs its blocks, the number of its tenant's uploads, and that of all uploads that expire, whose entries
-    /// in their list move.
+    /// upload holds. It takes no memory. It looks at the uploads that it ends alone. For each of
+    /// these it costs its blocks, and what stands behind it moves: of its tenant's uploads, and in the list of those that expire.
     pub fn sweep(&mut self, now: Moment) -> Swept
         ensures answer { result ≡ sweep_answer (plain_of self.old) now }
         ensures after { plain_of self.new ≡ book_after_sweep (plain_of self.old) now }
@@ -30,7 +29,7 @@ impl Book {
         let _lawful = self.settings();
         let mut uploads = 0;
         let mut blocks = 0;
-        while let Some(freed) = self.end_first(now) {
+        while let Some(freed) = self.end_one(now) {
             uploads += 1;
             blocks += freed;
         }
@@ -41,28 +40,25 @@ impl Book {
         }
     }
 
-    // Ends the upload that expires first, where it has expired at `now`, and gives how many blocks became free. `None`
-    // where no upload has expired, and then nothing changes.
-    fn end_first(&mut self, now: Moment) -> Option<u64>
+    // Ends an upload that has expired at `now`, and gives how many blocks became free. It is the last of these to expire: so
+    // none of them stands behind it in the list, and few do among its tenant's uploads. `None` where no upload has expired,
+    // and then nothing changes.
+    fn end_one(&mut self, now: Moment) -> Option<u64>
         ensures one { IfSome result (λ blocks. EndsOne (plain_of self.old) now blocks (plain_of self.new)) }
         ensures none { IfNone result (EndsNone (plain_of self.old) now) }
         ensures unchanged { IfNone result (self.new ≡ self.old) }
     {
-        let first = self.first_expired(now)?;
-        let place = self.store.find(&first.name)?;
-        Some(self.remove(first.name, place))
+        let expired = self.last_expired(now)?;
+        let place = self.store.find(&expired.name)?;
+        Some(self.remove(expired.name, place))
     }
 
-    // The upload that expires first, where it has expired at `now`; else none has.
-    pub(crate) fn first_expired(&self, now: Moment) -> Option<Expiring>
-        ensures first { IfSome result (λ x. slice_get self.now.expiries.list 0 ≡ Some x) }
+    // The last to expire of the uploads that have expired at `now`, if one has.
+    pub(crate) fn last_expired(&self, now: Moment) -> Option<Expiring>
+        ensures listed { IfSome result (λ x. Contains self.now.expiries.list x) }
         ensures expired { IfSome result (λ x. x.at ≤ now) }
         ensures none { IfNone result (EndsNone (plain_of self.now) now) }
     {
-        let first = self.expiries.first()?;
-        if now < first.at {
-            return None;
-        }
-        Some(first)
+        self.expiries.last_until(now)
     }
 }

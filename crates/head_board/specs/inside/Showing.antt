@@ -1,5 +1,5 @@
 -- What readers read, and the rule that it keeps.
-use Rattle.std.specs.Prelude.{◌≡◌, ℕ, true, false, List, None, length}
+use Rattle.std.specs.Prelude.{◌≡◌, ℕ, true, false, List, length}
 use mathlib.Core.List.{IsPrefix}
 use mathlib.Core.Option.{some}
 use lib.ListN.{get_elem?}

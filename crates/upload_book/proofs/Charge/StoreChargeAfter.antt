@@ -9,7 +9,7 @@ use Rattle.upload_book.specs.declared.stored_tenant.StoredTenant.{StoredTenant a
 use Rattle.upload_book.specs.declared.block_store.BlockStore.TheInside.{Inside}
 use Rattle.upload_book.specs.Expiry.{has_expired}
 use Rattle.upload_book.specs.inside.Kept.{stored_tenant_of, store_of, IsKept}
-use Rattle.upload_book.specs.inside.ChargeAfter.{cost_of, left, IsPaid}
+use Rattle.upload_book.specs.inside.ChargeAfter.{cost_of, left, AreCounted, IsPaid}
 use Rattle.upload_book.specs.BlockStore.{part_at}
 use Rattle.upload_book.specs.inside.Places.{without_upload}
 use Rattle.upload_book.specs.Stored.{StoredTenant, StoredUpload, entry_of, part_of, pieces_of}
@@ -23,6 +23,7 @@ use Rattle.upload_book.proofs.Store.Pieces.{All-remove, Contains-flat_map, Conta
 use Rattle.upload_book.proofs.Charge.PlainCharge.{charge-plain}
 use Rattle.upload_book.proofs.Store.PlainStoredTenants.{part-without}
 use Rattle.upload_book.proofs.Store.StoredTenants.{IsStoredOn-stored_tenant}
+use Rattle.upload_book.proofs.Store.StoredTenants.{places_on-held}
 use Rattle.upload_book.proofs.Store.StoreAppend.{charge-few}
 use Rattle.upload_book.proofs.Store.StoreLemmas.{IsPart, IsStoredTenant-part, charge-part, charges-kept, own-part, reads-part, stored_tenant_at-part}
 
@@ -33,6 +34,12 @@ IsPaid-part v t old kept is = record {
   fits = omega (arith, charge-few v t old 0 kept is (omega (arith, charges-kept v kept, blocks_in_use v.pool (store_of v).stored_tenants kept.stored)));
   given = λ x c. ((IsStoredOn-stored_tenant v.pool (store_of v).stored_tenants t (stored_tenant_of old) kept.stored (IsStoredTenant-part v t old is)).pieces.each x c).given;
 }
+
+-- its blocks are counted
+pub AreCounted-part : (v : Inside) (t : ℕ) (old : KeptTenant) → IsKept v → IsPart v t old → AreCounted v.pool (pieces_of (stored_tenant_of old))
+AreCounted-part v t old kept is =
+    let on = IsStoredOn-stored_tenant v.pool (store_of v).stored_tenants t (stored_tenant_of old) kept.stored (IsStoredTenant-part v t old is) in
+    record { counted = λ b. places_on-held v.pool (stored_tenant_of old) on b; agree = on.pieces.agree }
 
 -- what it will pay without the upload at a place, by the plain book
 pub charge-without : (v : Inside) (t place : ℕ) (old : KeptTenant) → IsKept v → IsPart v t old

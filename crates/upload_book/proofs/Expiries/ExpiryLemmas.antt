@@ -1,5 +1,6 @@
 -- Lists of uploads that expire: their order, and what they have after a change.
 use Rattle.std.proofs.Common.{◌≡◌, ◌≢◌, ℕ, zero, suc, ◌+◌, ◌<◌, ◌≤◌, true, false, List, [], ◌∷◌, length, get_or, inl, inr, sym, ap, ◌∙◌, subst, arith}
+use Rattle.std.specs.Prelude.{nat_le}
 use Rattle.std.specs.List.{All, AllPairs, Contains, insert, remove}
 use Rattle.std.specs.List.Sorted.{IsPartitionPoint, IsPartitionedBy}
 use Rattle.std.proofs.lemmas.Bool.{cases_lt, false≢true}
@@ -62,6 +63,22 @@ pub before-parts : (list : List Expiring) (x : Expiring) → IsAscending list �
 before-parts list x ascending = λ i j d below within passes. elim (cases_lt i j) [
   | inl less ↦ before-trans (get_or list i d) (get_or list j d) x (ascending i j d less within) passes
   | inr same ↦ subst (λ k. comes_before (get_or list k d) x ≡ true) (equal i j below same) passes
+]
+  where
+    equal : (i j : ℕ) → i ≤ j → j ≤ i → j ≡ i
+    equal i j a b = omega arith
+
+-- what comes before another expires no later
+pub before-at : (x y : Expiring) → comes_before x y ≡ true → x.at ≤ y.at
+before-at x y first = grind (arith, nat_tests)
+
+-- those that expire until a moment stand before the others
+pub until-parts : (list : List Expiring) (now : ℕ) → IsAscending list → IsPartitionedBy (λ y. nat_le y.at now) list
+until-parts list now ascending = λ i j d below within passes. elim (cases_lt i j) [
+  | inl less ↦
+      let later = before-at (get_or list i d) (get_or list j d) (ascending i j d less within) in
+      grind (arith, nat_tests)
+  | inr same ↦ subst (λ k. nat_le (get_or list k d).at now ≡ true) (equal i j below same) passes
 ]
   where
     equal : (i j : ℕ) → i ≤ j → j ≤ i → j ≡ i

@@ -1,5 +1,5 @@
 -- A sweep where the first upload that expires has not expired.
-use Rattle.std.proofs.Common.{◌≡◌, ℕ, ◌+◌, ◌-◌, ◌<◌, ◌≤◌, true, false, not, List, [], ◌∷◌, length, map, get_or, slice_get, Option, Some, None, IfSome, refl, ap, ap₂, ◌∙◌, arith}
+use Rattle.std.proofs.Common.{◌≡◌, ℕ, ◌+◌, ◌-◌, ◌<◌, true, false, not, List, [], ◌∷◌, length, map, get_or, slice_get, Option, Some, None, IfSome, refl, ap, ap₂, ◌∙◌, arith}
 use Rattle.std.specs.List.{All, sum_by}
 use Rattle.std.specs.Option.{option_and_then}
 use Rattle.std.proofs.lemmas.Bool.Decides.{nat_tests}
@@ -17,21 +17,17 @@ use Rattle.upload_book.specs.TenantBook.{TenantBook, Entry, opening_part}
 use Rattle.upload_book.specs.Upload.{Upload}
 use Rattle.upload_book.proofs.Steps.BookLemmas.{book_with}
 use Rattle.upload_book.proofs.Lawful.Entries.{filter_all, kept_in-place}
-use Rattle.upload_book.proofs.Expiries.ExpiryLemmas.{pairs-head}
+use Rattle.upload_book.proofs.Expiries.ExpiryLemmas.{before-at, pairs-head}
 
 -- it expires after the moment
 abbrev pub IsFresh : ℕ → Expiring → Type 0
 IsFresh now x = now < x.at
 
--- what comes later expires no earlier
-later-at : (x y : Expiring) → comes_before x y ≡ true → x.at ≤ y.at
-later-at x y before = grind (arith, nat_tests)
-
 -- where the first has not expired, none is
 fresh-first : (now : ℕ) (list : List Expiring) → IsAscending list → IfSome (slice_get list 0) (IsFresh now) → All (IsFresh now) list
 fresh-first now [] ascending first = λ k d within. absurd (omega arith)
 fresh-first now (x ∷ list) ascending first =
-    All-cons (IsFresh now) x list first (λ k d within. omega (arith, first, later-at x (get_or list k d) (pairs-head (λ x y. comes_before x y ≡ true) x list ascending k d within)))
+    All-cons (IsFresh now) x list first (λ k d within. omega (arith, first, before-at x (get_or list k d) (pairs-head (λ x y. comes_before x y ≡ true) x list ascending k d within)))
 
 -- an end that is later has not expired
 not_expired : (now : ℕ) (expires : Option ℕ) → ((at : ℕ) → expires ≡ Some at → now < at) → has_expired now expires ≡ false

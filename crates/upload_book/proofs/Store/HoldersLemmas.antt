@@ -36,7 +36,7 @@ holders-entry v s t id segment place i old e is part at read =
     ∙ ap (λ (e : Entry StoredUpload). option_map (count_at v.pool) (block_at e.kept segment place)) (get_or_default old.uploads.items i no_upload e inside ∙ sym read)
 
 -- a block that stands at a place of a list stands in it
-block-listed : (blocks : List ℕ) (place b : ℕ) → slice_get blocks place ≡ Some b → 0 < places_of b blocks
+pub block-listed : (blocks : List ℕ) (place b : ℕ) → slice_get blocks place ≡ Some b → 0 < places_of b blocks
 block-listed blocks place b is = elim (slice_get_cases blocks place).1 [
   | inl found ↦ subst (λ n. 0 < places_of n blocks) (get_or_from_slice_get blocks place b 0 is) (places_of-at place blocks found.1)
   | inr past ↦ let none : None ≡ Some b = sym past.1 ∙ is in absurd cc

@@ -1,12 +1,13 @@
 -- What a tenant will pay once uploads have ended, by how their pieces are kept now.
-use Rattle.std.specs.Prelude.{◌≡◌, ℕ, ◌+◌, ◌<◌, ◌^◌, Bool, true, not, List, ◌++◌, Contains, drop, flat_map, map, take, Option, Some, None}
+use Rattle.std.specs.Prelude.{◌≡◌, ℕ, ◌+◌, ◌<◌, ◌≤◌, ◌^◌, max, Bool, true, not, List, ◌++◌, Contains, drop, flat_map, map, take, Option, Some, None}
 use Rattle.std.specs.List.{filter}
-use Rattle.upload_book.specs.Charge.{Source, charge_of}
+use Rattle.block_pool.specs.Blocks.{Blocks, count_at, places_of}
+use Rattle.upload_book.specs.Charge.{Source, charge_of, price}
 use Rattle.upload_book.specs.declared.pieces.Piece.{Piece}
 use Rattle.upload_book.specs.declared.stored_tenant.StoredTenant.{StoredTenant as KeptTenant}
 use Rattle.upload_book.specs.Expiry.{has_expired}
 use Rattle.upload_book.specs.inside.Kept.{stored_tenant_of}
-use Rattle.upload_book.specs.Stored.{StoredUpload, pieces_of}
+use Rattle.upload_book.specs.Stored.{Agree, StoredUpload, pieces_of, placed_in}
 use Rattle.upload_book.specs.TenantBook.{Entry}
 
 -- pieces as they are paid
@@ -43,3 +44,12 @@ pub record IsPaid (size : ℕ) (t : KeptTenant) : Type 0 where
   pub charge : t.charge ≡ cost_of size t.next t.uploads.items
   pub fits : t.charge < 2 ^ 64
   pub given : (x : Piece) → Contains (pieces_of (stored_tenant_of t)) x → x.origin < t.next
+
+-- each block of the pieces is counted as often as it stands in them, at least; and those of one origin have the same blocks
+pub record AreCounted (p : Blocks) (pieces : List Piece) : Type 0 where
+  pub counted : (b : ℕ) → places_of b (placed_in pieces) ≤ count_at p b
+  pub agree : (x y : Piece) → Contains pieces x → Contains pieces y → Agree x y
+
+-- what an origin costs by the other pieces: those of the same upload behind a place, and those of the uploads beside
+abbrev pub price_elsewhere : ℕ → List Piece → ℕ → List Source → ℕ → ℕ
+price_elsewhere size pieces place others origin = max (price size (sources_in (drop (place + 1) pieces)) origin) (price size others origin)

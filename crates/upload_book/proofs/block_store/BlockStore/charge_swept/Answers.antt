@@ -1,6 +1,6 @@
 use Rattle.std.proofs.Common.{Some, ap, sym, subst, ◌∙◌}
 use Rattle.upload_book.specs.inside.ChargeAfter.{cost_of, left, IsPaid}
-use Rattle.upload_book.proofs.Charge.StoreChargeAfter.{IsPaid-part, charge-swept}
+use Rattle.upload_book.proofs.Charge.StoreChargeAfter.{AreCounted-part, IsPaid-part, charge-swept}
 use Rattle.upload_book.proofs.Store.StoreLemmas.{IsPart-read}
 use Rattle.upload_book.proofs.block_store.BlockStore.charge_swept.Goals as goal
 
@@ -11,6 +11,11 @@ pub charge_swept-requires-clause-paid : goal.charge_swept-requires-clause-paid
 charge_swept-requires-clause-paid c =
     let part = IsPart-read c.self.inside c.args.self.now c.args.tenant c.index.result.now c.self.view_is (rw c.tenants.ensures at c.if-tenant-tenants.true) c.index.ensures in
     subst (λ size. IsPaid size c.index.result.now) (sym (c.from-size.ensures ∙ c.block_size.ensures.value)) (IsPaid-part c.self.inside c.args.tenant c.index.result.now c.self.invariant part)
+
+pub charge_swept-requires-clause-counted : goal.charge_swept-requires-clause-counted
+charge_swept-requires-clause-counted c =
+    AreCounted-part c.self.inside c.args.tenant c.index.result.now c.self.invariant
+    (IsPart-read c.self.inside c.args.self.now c.args.tenant c.index.result.now c.self.view_is (rw c.tenants.ensures at c.if-tenant-tenants.true) c.index.ensures)
 
 pub returns-then-tenant-tenants : goal.returns-then-tenant-tenants
 returns-then-tenant-tenants c =

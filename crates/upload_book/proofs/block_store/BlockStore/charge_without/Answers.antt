@@ -3,7 +3,7 @@ use Rattle.std.specs.List.{remove}
 use Rattle.upload_book.specs.inside.ChargeAfter.{cost_of, IsPaid}
 use Rattle.upload_book.specs.BlockStore.{BlockStore, stored_tenant_at}
 use Rattle.upload_book.specs.Stored.{StoredTenant}
-use Rattle.upload_book.proofs.Charge.StoreChargeAfter.{IsPaid-part, charge-without}
+use Rattle.upload_book.proofs.Charge.StoreChargeAfter.{AreCounted-part, IsPaid-part, charge-without}
 use Rattle.upload_book.proofs.Store.StoreLemmas.{IsPart-read, stored_tenant_at-part}
 use Rattle.upload_book.proofs.block_store.BlockStore.charge_without.Goals as goal
 
@@ -19,6 +19,10 @@ pub charge_without-requires-clause-paid : goal.charge_without-requires-clause-pa
 charge_without-requires-clause-paid c =
     let part = IsPart-read c.self.inside c.args.self.now c.args.tenant c.index.result.now c.self.view_is c.requires.tenant c.index.ensures in
     subst (λ size. IsPaid size c.index.result.now) (sym (c.from-size.ensures ∙ c.block_size.ensures.value)) (IsPaid-part c.self.inside c.args.tenant c.index.result.now c.self.invariant part)
+
+pub charge_without-requires-clause-counted : goal.charge_without-requires-clause-counted
+charge_without-requires-clause-counted c =
+    AreCounted-part c.self.inside c.args.tenant c.index.result.now c.self.invariant (IsPart-read c.self.inside c.args.self.now c.args.tenant c.index.result.now c.self.view_is c.requires.tenant c.index.ensures)
 
 pub returns : goal.returns
 returns c =
