@@ -100,20 +100,6 @@ fn put_upload(
 {
     let next = upload.id();
     put_piece(alloc, rooms, now, Restored::Next { tenant, next })?;
-    put_kept(alloc, rooms, now, tenant, upload)
-}
-
-// Puts that of an upload.
-fn put_kept(
-    alloc: Global,
-    rooms: &mut Vec<Vec<u8>>,
-    now: Moment,
-    tenant: u8,
-    upload: &KeptUpload,
-) -> Result<(), SnapshotFault>
-    ensures { OnOk result (ArePut now (Upload tenant upload.now ∷ [])
-        (map (λ room. room.items) rooms.old.items) (map (λ room. room.items) rooms.new.items)) }
-{
     tell_kept(upload);
     let room = open_room(alloc, upload_len(upload))?;
     let room = with_kept(room, now, tenant, upload)?;
