@@ -64,7 +64,7 @@ fn put_parts(
     Ok(())
 }
 
-// Puts those of a tenant's part: of its uploads, and of its next id.
+// Puts those of a tenant's part: of its uploads, each behind that of its id, and of its next id.
 fn put_part(
     alloc: Global,
     rooms: &mut Vec<Vec<u8>>,
@@ -78,29 +78,13 @@ fn put_part(
         ++ Next tenant (tenant_book (plain_of book.now) tenant).next ∷ [])
         (map (λ room. room.items) rooms.old.items) (map (λ room. room.items) rooms.new.items)) }
 {
-    put_uploads(alloc, rooms, book, tenant, now)?;
-    let next = book.next_id(tenant);
-    put_piece(alloc, rooms, now, Restored::Next { tenant, next })
-}
-
-// Puts those of a tenant's uploads, each behind that of its id.
-fn put_uploads(
-    alloc: Global,
-    rooms: &mut Vec<Vec<u8>>,
-    book: &Book,
-    tenant: u8,
-    now: Moment,
-) -> Result<(), SnapshotFault>
-    requires { tenant < length (plain_of book.now).settings.tenants }
-    ensures { OnOk result (ArePut now (uploads_kept tenant [] (tenant_book (plain_of book.now) tenant).uploads)
-        (map (λ room. room.items) rooms.old.items) (map (λ room. room.items) rooms.new.items)) }
-{
     let count = book.upload_count(tenant) as usize;
     for place in 0..count {
         let upload = book.kept_upload(tenant, place).unwrap();
         put_upload(alloc, rooms, now, tenant, &upload)?;
     }
-    Ok(())
+    let next = book.next_id(tenant);
+    put_piece(alloc, rooms, now, Restored::Next { tenant, next })
 }
 
 // Puts those of an upload: of its id as the tenant's next one, and its own.
@@ -116,20 +100,6 @@ fn put_upload(
 {
     let next = upload.id();
     put_piece(alloc, rooms, now, Restored::Next { tenant, next })?;
-    put_kept(alloc, rooms, now, tenant, upload)
-}
-
-// Puts that of an upload.
-fn put_kept(
-    alloc: Global,
-    rooms: &mut Vec<Vec<u8>>,
-    now: Moment,
-    tenant: u8,
-    upload: &KeptUpload,
-) -> Result<(), SnapshotFault>
-    ensures { OnOk result (ArePut now (Upload tenant upload.now ∷ [])
-        (map (λ room. room.items) rooms.old.items) (map (λ room. room.items) rooms.new.items)) }
-{
     tell_kept(upload);
     let room = open_room(alloc, upload_len(upload))?;
     let room = with_kept(room, now, tenant, upload)?;

@@ -1,10 +1,10 @@
-ghost use Rattle.std.specs.Prelude.{◌≡◌, ◌+◌, ◌<◌, ◌≤◌, ◌^◌, ◌++◌, ◌∷◌, [], drop, fold, length, IfOk, MatchBool, true};
+ghost use Rattle.std.specs.Prelude.{◌≡◌, ◌+◌, ◌<◌, ◌≤◌, ◌^◌, ◌++◌, ◌∷◌, [], drop, fold, length, IfOk, true};
 ghost use mathlib.Core.List.{IsPrefix};
 ghost use Rattle.head_board.specs.Board.{BoardView, new_reader};
 ghost use Rattle.head_board.specs.declared.board_copy.Note.TheVariants.{More};
 ghost use Rattle.head_board.specs.declared.coming_texts.ComingTexts.{ComingTexts};
 ghost use Rattle.head_board.specs.Events.{IsNoteOfEvent, book_at, event_of};
-ghost use Rattle.head_board.specs.inside.BoardRule.{IsAtRest};
+ghost use Rattle.head_board.specs.inside.BoardRule.{IsAtRest, IsBegun};
 ghost use Rattle.head_board.specs.inside.ComingTexts.{text_in, text_room};
 ghost use Rattle.head_board.specs.inside.Showing.{change_with, noted, view_of, with_note, Fits, IsCurrent, IsNext, WithTexts};
 ghost use Rattle.left_right.specs.Sides.{view as known_at};
@@ -181,10 +181,8 @@ const MOST_NOTES: usize = 4 + 1024 / PIECE + 2048 / PIECE;
 fn begun<R: Wait>(rt: &R, writer: BoardWriter) -> (BoardWriter, bool)
     requires current { IsCurrent writer.desk.shown.value }
     requires pending { drop writer.behind writer.log.items ≡ [] }
-    ensures { MatchBool result.1
-        ((result.0.desk.shown.value ≡ writer.desk.shown.value)
-        × IsAtRest result.0.desk.shown.value (known_at result.0.desk.place) (drop result.0.behind result.0.log.items))
-        (Unit {0}) }
+    ensures { IsBegun result.1 writer.desk.shown.value result.0.desk.shown.value (known_at result.0.desk.place)
+        (drop result.0.behind result.0.log.items) }
 {
     let (mut writer, done) = shown_first(rt, writer);
     if !done {
@@ -200,10 +198,8 @@ fn begun<R: Wait>(rt: &R, writer: BoardWriter) -> (BoardWriter, bool)
 fn shown_first<R: Wait>(rt: &R, mut writer: BoardWriter) -> (BoardWriter, bool)
     requires current { IsCurrent writer.desk.shown.value }
     requires pending { drop writer.behind writer.log.items ≡ [] }
-    ensures { MatchBool result.1
-        ((result.0.desk.shown.value ≡ writer.desk.shown.value)
-        × IsAtRest result.0.desk.shown.value (known_at result.0.desk.place) (drop result.0.behind result.0.log.items))
-        (Unit {0}) }
+    ensures { IsBegun result.1 writer.desk.shown.value result.0.desk.shown.value (known_at result.0.desk.place)
+        (drop result.0.behind result.0.log.items) }
 {
     if !make_room(&mut writer) {
         return (writer, false);

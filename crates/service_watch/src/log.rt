@@ -1,5 +1,5 @@
 //! Lines that wait to be written to a log.
-ghost use Rattle.std.specs.Prelude.{◌≡◌, [], length};
+ghost use Rattle.std.specs.Prelude.{◌≡◌, ◌+◌, ◌-◌, ◌^◌, ◌++◌, [], length, min, if◌then◌else◌, IsTrue};
 ghost use Rattle.service_watch.specs.Line.{cut_text, request_text};
 ghost use Rattle.service_watch.specs.Log.{lost_more, with_line};
 
@@ -44,11 +44,7 @@ impl Log {
     {
         self.line.clear();
         let is_made = put_request(&mut self.line, line).is_ok();
-        let is_put = is_made && self.waiting.extend_from_slice(&self.line).is_ok();
-        if !is_put {
-            self.lost = self.lost.saturating_add(1);
-        }
-        is_put
+        put_whole(&mut self.waiting, &mut self.lost, &self.line, is_made)
     }
 
     /// Puts the line of a connection that was cut off behind those that wait. It is false where memory is lacking; then the
@@ -58,11 +54,7 @@ impl Log {
     {
         self.line.clear();
         let is_made = put_cut(&mut self.line, line).is_ok();
-        let is_put = is_made && self.waiting.extend_from_slice(&self.line).is_ok();
-        if !is_put {
-            self.lost = self.lost.saturating_add(1);
-        }
-        is_put
+        put_whole(&mut self.waiting, &mut self.lost, &self.line, is_made)
     }
 
     /// The lines that wait, one behind the other.
@@ -93,4 +85,17 @@ impl Log {
     {
         self.lost
     }
+}
+
+// Puts a line that was made behind those that wait. One that was not, or for which memory is lacking, is lost.
+fn put_whole(waiting: &mut Vec<u8>, lost: &mut u64, line: &[u8], is_made: bool) -> bool
+    ensures made { IsTrue result → IsTrue is_made }
+    ensures waiting { waiting.new.items ≡ (if result then waiting.old.items ++ line.now else waiting.old.items) }
+    ensures lost { lost.new ≡ (if result then lost.old else min (lost.old + 1) (2 ^ 64 - 1)) }
+{
+    let is_put = is_made && waiting.extend_from_slice(line).is_ok();
+    if !is_put {
+        *lost = lost.saturating_add(1);
+    }
+    is_put
 }

@@ -17,7 +17,7 @@ use Rattle.tus_text.specs.declared.path.Path.TheVariants.{Create, Upload, Other}
 use Rattle.tus_text.specs.Number.{number_of}
 use Rattle.tus_text.specs.Tenant.{is_tenant_name}
 use Rattle.tus_text.specs.Path.{Origin, HasOrigin, print_origin, Tail, bare, slash, id, IsId, IsTail, print_tail, print_target, IsTarget, Target, named_path, is_authority_byte, after_files, path_in_files, path_of}
-use Rattle.tus_text.proofs.NumberLemmas.{numerals, IsNumber, number_of-numeral, number_of-some}
+use Rattle.tus_text.proofs.NumberLemmas.{numerals, IsNumber, number_of-empty, number_of-numeral, number_of-other_byte, number_of-some}
 use Rattle.tus_text.proofs.PathLemmas.{path_in_files-tail, path_in_files-reading, path_of-printed, path_of-Names, after_files-sound}
 
 ascii-digits : (text : List ℕ) → all_ascii_digits text ≡ true → IsAscii text
@@ -34,6 +34,13 @@ number_of-none text never =
     let not_one : 0 < length text → all_ascii_digits text ≡ true → digits_value 10 text < 2 ^ 64 → ⊥
     = λ some digits fits. never (record { some = some; digits = digits; fits = fits }) in
     grind (arith, nat_tests)
+
+-- no bytes, or such as begin with a plus
+pub number_of-plus : (text : List ℕ) → (0 < length text → get_or text 0 0 ≡ 43) → number_of text ≡ None
+number_of-plus [] plus = number_of-empty
+number_of-plus (byte ∷ rest) plus =
+    let first = plus (omega arith) in
+    number_of-other_byte (byte ∷ rest) 0 (omega arith) (λ digit. omega arith)
 
 -- bytes that are no text
 pub number_of-other_text : (text : List ℕ) → (IsUtf8 text → ⊥) → number_of text ≡ None

@@ -7,5 +7,6 @@ pub mod Ids
 pub mod Kept
 pub mod KeptUpload
 pub mod Notes
+pub mod PieceRefusal
 pub mod Pieces
 pub mod Places

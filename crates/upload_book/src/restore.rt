@@ -4,12 +4,12 @@ ghost use Rattle.upload_book.specs.BlockStore.{part_at};
 ghost use Rattle.upload_book.specs.Book.{plain_of};
 ghost use Rattle.upload_book.specs.inside.Back.{own_tests};
 ghost use Rattle.upload_book.specs.inside.FinalBack.{final_tests, limits_of};
+ghost use Rattle.upload_book.specs.inside.PieceRefusal.{IsPieceRefusal};
 ghost use Rattle.upload_book.specs.Append.{is_final};
 ghost use Rattle.upload_book.specs.declared.head_row.Kind.TheVariants.{Final};
-ghost use Rattle.upload_book.specs.declared.refusal.Refusal.TheVariants.{Memory};
 ghost use Rattle.upload_book.specs.Ready.{IsReadyForBack, IsReadyForNext, IsReadyForOwn, IsReadyForPiece, IsReadyForTotals, piece_in};
-ghost use Rattle.upload_book.specs.Refusal.{IsAnswer, first_that_holds};
-ghost use Rattle.upload_book.specs.snapshot.Restore.{CanBePutBack, IsRestorable, MayLackPiece, book_after_piece, charged_with, next_tests, piece_refusal};
+ghost use Rattle.upload_book.specs.Refusal.{first_that_holds};
+ghost use Rattle.upload_book.specs.snapshot.Restore.{CanBePutBack, IsRestorable, book_after_piece, charged_with, next_tests, piece_refusal};
 ghost use Rattle.upload_book.specs.declared.restored.Restored.TheVariants as piece;
 ghost use Rattle.upload_book.specs.TenantBook.{TenantBook};
 
@@ -30,9 +30,7 @@ impl Book {
         requires { CanBePutBack (length (plain_of self.now).settings.tenants) piece }
         ensures piece { IfOk result (λ r. piece_in r ≡ piece.entry) }
         ensures ready { IfOk result (IsReadyForPiece self.now) }
-        ensures refused { IfErr result (λ why. IsAnswer
-            (piece_refusal (plain_of self.now) piece.entry)
-            (MayLackPiece (plain_of self.now) piece.entry) (Some Memory) (Some why)) }
+        ensures refused { IfErr result (IsPieceRefusal (plain_of self.now) piece.entry) }
     {
         match piece {
             Restored::Upload { tenant, upload } => self.ready_for_back(tenant, upload),
@@ -57,10 +55,7 @@ impl Book {
         requires form { IsRestorable upload }
         ensures piece { IfOk result (λ r. piece_in r ≡ piece.Upload tenant upload.entry) }
         ensures ready { IfOk result (IsReadyForPiece self.now) }
-        ensures refused { IfErr result (λ why. IsAnswer
-            (piece_refusal (plain_of self.now) (piece.Upload tenant upload.entry))
-            (piece_refusal (plain_of self.now) (piece.Upload tenant upload.entry) ≡ None)
-            (Some Memory) (Some why)) }
+        ensures refused { IfErr result (IsPieceRefusal (plain_of self.now) (piece.Upload tenant upload.entry)) }
     {
         match upload.kind {
             Kind::Final => match self.ready_for_final_back(tenant, upload) {
@@ -100,10 +95,7 @@ impl Book {
         ensures tenant { IfOk result (λ r. r.tenant ≡ tenant) }
         ensures upload { IfOk result (λ r. r.upload ≡ upload.entry) }
         ensures ready { IfOk result (IsReadyForBack self.now) }
-        ensures refused { IfErr result (λ why. IsAnswer
-            (piece_refusal (plain_of self.now) (piece.Upload tenant upload.entry))
-            (piece_refusal (plain_of self.now) (piece.Upload tenant upload.entry) ≡ None)
-            (Some Memory) (Some why)) }
+        ensures refused { IfErr result (IsPieceRefusal (plain_of self.now) (piece.Upload tenant upload.entry)) }
     {
         let place = usize::from(tenant);
         if let Some(refusal) = self.final_refusal(tenant, &upload) {
@@ -189,10 +181,7 @@ impl Book {
         ensures tenant { IfOk result (λ r. r.tenant ≡ tenant) }
         ensures upload { IfOk result (λ r. r.upload ≡ upload.entry) }
         ensures ready { IfOk result (IsReadyForOwn self.now) }
-        ensures refused { IfErr result (λ why. IsAnswer
-            (piece_refusal (plain_of self.now) (piece.Upload tenant upload.entry))
-            (piece_refusal (plain_of self.now) (piece.Upload tenant upload.entry) ≡ None)
-            (Some Memory) (Some why)) }
+        ensures refused { IfErr result (IsPieceRefusal (plain_of self.now) (piece.Upload tenant upload.entry)) }
     {
         let account = self.account(tenant);
         let place = usize::from(tenant);

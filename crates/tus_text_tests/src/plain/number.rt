@@ -8,10 +8,7 @@ use std::str;
 pub fn plain_number(text: &[u8]) -> Option<u64>
     ensures { result ≡ number_of text.now }
 {
-    if text.is_empty() {
-        return None;
-    }
-    if text[0] == b'+' {
+    if text.is_empty() || text[0] == b'+' {
         return None;
     }
     match str::from_utf8(text) {

@@ -3,7 +3,7 @@ use Rattle.upload_book.specs.Book.{plain_of}
 use Rattle.upload_book.specs.PlainBook.{tenant_book}
 use Rattle.upload_book.specs.snapshot.Snapshot.{uploads_kept}
 use Rattle.book_replay.specs.Snapshot.{ArePut}
-use Rattle.book_replay.proofs.snapshot.put_uploads.Given as goal
+use Rattle.book_replay.proofs.snapshot.put_part.Given as goal
 
 -- those of the first uploads are put
 abbrev pub invariant-loop-place : goal.invariant-loop-place
