@@ -1,5 +1,5 @@
 //! Pools of blocks: how many may be held, by whom, and what they keep.
-ghost use Rattle.std.specs.Prelude.{◌≡◌, ◌+◌};
+ghost use Rattle.std.specs.Prelude.{◌≡◌, ◌≤◌, ◌+◌, length};
 ghost use Rattle.block_pool.specs.Blocks.{count_at, IsWithinLimits};
 
 use block_pool::{BLOCK_SIZE_MAX, BlockId, POOL_BYTES_MAX, Pool};
@@ -62,6 +62,25 @@ fn assert_keeps_bytes(rt: &impl Abort, pool: &mut Pool, block: BlockId)
     pool.write(block, 0, b"abcd");
     pool.write(block, 1, b"xy");
     assert!(rt; pool.bytes(block) == b"axyd".as_slice());
+}
+
+// A block of four bytes is taken with these as its first ones, for the first time and again.
+fn assert_taken_with(rt: &impl Abort, pool: &mut Pool, bytes: &[u8])
+    requires size { pool.old.block_size ≡ 4 }
+    requires fits { length bytes.now ≤ 4 }
+    ensures { pool.new.block_size ≡ 4 }
+{
+    let block = pool.take_with(bytes).expect(rt, "a block");
+    assert!(rt; pool.bytes(block).starts_with(bytes));
+    pool.release(block);
+}
+
+#[test]
+fn blocks_with_their_bytes(rt: HostRuntime) {
+    let mut pool = new_pool(&rt, rt.alloc(), 1, 4);
+    assert_taken_with(&rt, &mut pool, b"ab");
+    assert_taken_with(&rt, &mut pool, b"wxyz");
+    assert_taken_with(&rt, &mut pool, b"");
 }
 
 // One of two blocks, which is held once, is held twice, and then by nobody.

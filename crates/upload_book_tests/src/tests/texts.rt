@@ -1,4 +1,6 @@
 //! Texts that a book keeps, and names that are no upload's.
+ghost use Rattle.upload_book.specs.Begun.{IsBegun};
+ghost use Rattle.upload_book.specs.Book.{plain_of};
 
 use crate::tests::books::{ACME, BETA, acme, create, end, moment, new_book, new_final, part, send};
 use std::process::Abort;
@@ -97,9 +99,11 @@ fn a_tenant_that_is_not_there(rt: HostRuntime) {
     assert_no_append(&rt, &mut book, &name);
 }
 
-// A GET of acme's first upload hands over these bytes, whatever the vector had into which they are copied.
-fn assert_handed_over(rt: &impl Abort, book: &Book, room: Vec<u8>, bytes: &[u8]) {
-    let content = book.content(&acme(1), moment(rt, 1000), room);
+// A GET of the upload hands over these bytes, of which the vector has the first.
+fn assert_handed_over(rt: &impl Abort, book: &Book, name: &Name, begun: Vec<u8>, bytes: &[u8])
+    requires { IsBegun (plain_of book.now) name.now begun.items }
+{
+    let content = book.content(name, moment(rt, 1000), begun);
     let content = content.expect(rt, "a content").into_vec();
     assert!(rt; content.as_slice() == bytes);
 }
@@ -108,9 +112,20 @@ fn assert_handed_over(rt: &impl Abort, book: &Book, room: Vec<u8>, bytes: &[u8])
 fn a_content_is_handed_over(rt: HostRuntime) {
     let mut book = new_book(&rt, rt.alloc(), NUMBERS);
     part(&rt, &mut book, b"abcde");
-    assert_handed_over(&rt, &book, book.no_room(), b"abcde");
-    let used = Vec::from_slice(rt.alloc(), b"others");
-    assert_handed_over(&rt, &book, used.expect(&rt, "memory"), b"abcde");
+    assert_handed_over(&rt, &book, &acme(1), book.no_room(), b"abcde");
+}
+
+#[test]
+fn a_content_is_copied_piece_by_piece(rt: HostRuntime) {
+    let mut book = new_book(&rt, rt.alloc(), NUMBERS);
+    part(&rt, &mut book, b"abcde");
+    let name = acme(1);
+    let mut begun = Vec::with_capacity(rt.alloc(), 4).expect(&rt, "memory");
+    book.read_ahead(&name, moment(&rt, 1000), &mut begun, 3);
+    assert!(&rt; begun.as_slice() == b"abc");
+    book.read_ahead(&name, moment(&rt, 1000), &mut begun, 3);
+    assert!(&rt; begun.as_slice() == b"abcd");
+    assert_handed_over(&rt, &book, &name, begun, b"abcde");
 }
 
 // Acme's first upload, which has five of its nine bytes.
