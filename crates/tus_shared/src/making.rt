@@ -31,15 +31,9 @@ pub(crate) fn make_ready<C: Charges, R: Ledger, M: Ledger, B: Wait + Drop>(
 ) -> Outcome
     requires ready { IsReady book.old ready }
     requires asked { CanBeMade (length C.settings.tenants) (change_in ready) }
-    requires store { IsStore C.settings C.desks C.log (plain_of book.old) board.old
-        (record { total = charged.old.book.total; parts = charged.old.rest.parts; rest = charged.old.rest.amount })
-        (record { total = released.old.book.total; parts = released.old.rest.parts; rest = released.old.rest.amount })
-        (record { total = made.old.book.total; parts = made.old.rest.parts; rest = made.old.rest.amount }) }
+    requires store { IsStore C.settings C.desks C.log (plain_of book.old) board.old charged.old released.old made.old }
     ensures answer { change_answer (plain_of book.old) (change_in ready.entry) (moment_in ready.entry) ≡ Ok result }
-    ensures store { IsStore C.settings C.desks C.log (plain_of book.new) board.new
-        (record { total = charged.new.book.total; parts = charged.new.rest.parts; rest = charged.new.rest.amount })
-        (record { total = released.new.book.total; parts = released.new.rest.parts; rest = released.new.rest.amount })
-        (record { total = made.new.book.total; parts = made.new.rest.parts; rest = made.new.rest.amount }) }
+    ensures store { IsStore C.settings C.desks C.log (plain_of book.new) board.new charged.new released.new made.new }
     ensures next { IsNextEvent board.old.events desk.old.number (change_in ready.entry) (moment_in ready.entry) board.new.events }
     ensures lawful { IsLawful (book_at C.settings board.new.events) }
     ensures moves { Moves C.settings board.old.events board.new.events desk.old desk.new }

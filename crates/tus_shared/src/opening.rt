@@ -104,17 +104,14 @@ fn open_board<C: Charges, R: Ledger, M: Ledger, B: Wait + Drop>(
     requires settings { settings.now ≡ C.settings }
     requires log { opened.seen.book ≡ C.log }
     requires journal { journal ≡ C.journal }
-    requires charged { IsCounted 0 0 (record { total = charged.old.book.total; parts = charged.old.rest.parts; rest = charged.old.rest.amount }) }
-    requires released { IsCounted 0 0 (record { total = released.old.book.total; parts = released.old.rest.parts; rest = released.old.rest.amount }) }
-    requires made { IsCounted 0 0 (record { total = made.old.book.total; parts = made.old.rest.parts; rest = made.old.rest.amount }) }
+    requires charged { IsCounted 0 0 charged.old }
+    requires released { IsCounted 0 0 released.old }
+    requires made { IsCounted 0 0 made.old }
     ensures board { IfOk result (λ opened. opened.0 ≡ record { settings = C.settings; log = C.log; events = [] }) }
     ensures desks { IfOk result (λ opened. opened.1.items ≡ new_desks C.journal count) }
-    ensures charged { IfOk result (λ opened. IsCounted count 0
-        (record { total = charged.new.book.total; parts = charged.new.rest.parts; rest = charged.new.rest.amount })) }
-    ensures released { IfOk result (λ opened. IsCounted count 0
-        (record { total = released.new.book.total; parts = released.new.rest.parts; rest = released.new.rest.amount })) }
-    ensures made { IfOk result (λ opened. IsCounted count 0
-        (record { total = made.new.book.total; parts = made.new.rest.parts; rest = made.new.rest.amount })) }
+    ensures charged { IfOk result (λ opened. IsCounted count 0 charged.new) }
+    ensures released { IfOk result (λ opened. IsCounted count 0 released.new) }
+    ensures made { IfOk result (λ opened. IsCounted count 0 made.new) }
     ensures fault { result ≡ Err OpenFault.Desks → ⊥ }
 {
     let Ok(mut board) = Board::new(alloc, rt, settings, count, opened) else {
@@ -141,17 +138,14 @@ fn open_desks<C: Charges, R: Ledger, M: Ledger, B: Wait + Drop>(
     requires settings { settings.now ≡ C.settings }
     requires journal { journal ≡ C.journal }
     requires board { board.old ≡ record { settings = C.settings; log = C.log; events = [] } }
-    requires charged { IsCounted 0 0 (record { total = charged.old.book.total; parts = charged.old.rest.parts; rest = charged.old.rest.amount }) }
-    requires released { IsCounted 0 0 (record { total = released.old.book.total; parts = released.old.rest.parts; rest = released.old.rest.amount }) }
-    requires made { IsCounted 0 0 (record { total = made.old.book.total; parts = made.old.rest.parts; rest = made.old.rest.amount }) }
+    requires charged { IsCounted 0 0 charged.old }
+    requires released { IsCounted 0 0 released.old }
+    requires made { IsCounted 0 0 made.old }
     ensures desks { IfOk result (λ desks. desks.items ≡ new_desks C.journal count) }
     ensures board { board.new ≡ board.old }
-    ensures charged { IfOk result (λ desks. IsCounted count 0
-        (record { total = charged.new.book.total; parts = charged.new.rest.parts; rest = charged.new.rest.amount })) }
-    ensures released { IfOk result (λ desks. IsCounted count 0
-        (record { total = released.new.book.total; parts = released.new.rest.parts; rest = released.new.rest.amount })) }
-    ensures made { IfOk result (λ desks. IsCounted count 0
-        (record { total = made.new.book.total; parts = made.new.rest.parts; rest = made.new.rest.amount })) }
+    ensures charged { IfOk result (λ desks. IsCounted count 0 charged.new) }
+    ensures released { IfOk result (λ desks. IsCounted count 0 released.new) }
+    ensures made { IfOk result (λ desks. IsCounted count 0 made.new) }
     ensures fault { result ≡ Err OpenFault.Desks → ⊥ }
 {
     let Ok(mut desks) = Vec::with_capacity(alloc, count) else {

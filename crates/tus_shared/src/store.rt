@@ -60,10 +60,7 @@ impl<C: Charges, R: Ledger, M: Ledger, B: Wait + Drop> Model for Store<C, R, M, 
 
     ghost view = { λ s. s.board.events };
 
-    ghost invariant = { λ s. IsStore C.settings C.desks C.log (plain_of s.book) s.board
-        (record { total = s.charged.book.total; parts = s.charged.rest.parts; rest = s.charged.rest.amount })
-        (record { total = s.released.book.total; parts = s.released.rest.parts; rest = s.released.rest.amount })
-        (record { total = s.made.book.total; parts = s.made.rest.parts; rest = s.made.rest.amount })
+    ghost invariant = { λ s. IsStore C.settings C.desks C.log (plain_of s.book) s.board s.charged s.released s.made
         × IsQueued C.settings C.journal C.log s.board.events s.queue };
 }
 

@@ -6,6 +6,7 @@ use Rattle.upload_book.specs.Ready.{change_in}
 use Rattle.upload_book.specs.Settings.{Settings}
 use Rattle.head_board.specs.Board.{BoardView, ReaderView}
 use Rattle.head_board.specs.Events.{HaveHappened}
+use Rattle.tus_shared.specs.inside.StoreRule.{IsCounted}
 use Rattle.tus_shared.proofs.ChangeLemmas.{no-less, shown-at, shown-one}
 use Rattle.head_board.proofs.SettingsLemmas.{at-settings}
 use Rattle.tus_shared.proofs.making.make_ready.Goals as goal
@@ -23,25 +24,28 @@ returns-clause-store g c =
     let after = c.commit-outcome.ensures.after in
     let at = shown-at s _ _ _ _ _ _ _ old.at refl c.requires.asked told.1 shown after in
     let n = no-less _ _ _ _ told.1 after in
+    let charged = subst (IsCounted _ _) (sym c.charged.view_is) old.charged in
+    let released = subst (IsCounted _ _) (sym c.released.view_is) old.released in
+    let made = subst (IsCounted _ _) (sym c.made.view_is) old.made in
     record {
       settings = ap (λ (b : PlainBook). b.settings) at.is ∙ at-settings s c.show_note.new.board.events;
       board_settings = ap (λ (v : BoardView). v.settings) shown ∙ old.board_settings;
       board_log = ap (λ (v : BoardView). v.log) shown ∙ old.board_log;
       at = at;
       charged = record {
-        total = omega (arith, n.charged, old.charged.total, c.add.ensures.total, c.charged_total-had_charged.ensures.value, c.charged_total.ensures.value);
-        parts = old.charged.parts;
-        rest = old.charged.rest;
+        total = omega (arith, n.charged, charged.total, c.add.ensures.total, c.charged_total-had_charged.ensures.value, c.charged_total.ensures.value);
+        parts = charged.parts;
+        rest = charged.rest;
       };
       released = record {
-        total = omega (arith, n.released, old.released.total, c.add-2.ensures.total, c.released_total-had_released.ensures, c.released_total.ensures);
-        parts = old.released.parts;
-        rest = old.released.rest;
+        total = omega (arith, n.released, released.total, c.add-2.ensures.total, c.released_total-had_released.ensures, c.released_total.ensures);
+        parts = released.parts;
+        rest = released.rest;
       };
       made = record {
-        total = omega (arith, c.add-3.ensures.total, old.made.total, shown-one _ _ _ shown);
-        parts = old.made.parts;
-        rest = old.made.rest;
+        total = omega (arith, c.add-3.ensures.total, made.total, shown-one _ _ _ shown);
+        parts = made.parts;
+        rest = made.rest;
       };
     }
 

@@ -5,9 +5,9 @@ use Rattle.tus_shared.proofs.opening.open_desks.Given as goal
 
 abbrev pub invariant-loop-number : goal.invariant-loop-number
 invariant-loop-number g l =
-    IsCounted l.number 0 (record { total = l.charged.book.total; parts = l.charged.rest.parts; rest = l.charged.rest.amount })
-    × IsCounted l.number 0 (record { total = l.released.book.total; parts = l.released.rest.parts; rest = l.released.rest.amount })
-    × IsCounted l.number 0 (record { total = l.made.book.total; parts = l.made.rest.parts; rest = l.made.rest.amount })
+    IsCounted l.number 0 l.charged
+    × IsCounted l.number 0 l.released
+    × IsCounted l.number 0 l.made
     × (l.board ≡ l.fn.board)
     × (l.desks.items ≡ new_desks l.fn.journal l.number)
     × (vec_len l.desks ≡ l.number)
