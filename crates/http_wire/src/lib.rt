@@ -39,4 +39,5 @@ pub use message::Message;
 pub use refusal::WireRefusal;
 pub use source::{Sink, Source, Tapped};
 pub use wire::Wire;
+pub use write::reply::reply_status;
 pub use write::send::put_all;

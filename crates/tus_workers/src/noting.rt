@@ -9,7 +9,7 @@ ghost use Rattle.tus_workers.specs.Noting.{told_word};
 
 use access_log::SeenReply;
 use connection_turns::Durability;
-use http_wire::{Answer, WireRefusal};
+use http_wire::{Answer, WireRefusal, reply_status};
 use service_watch::Word;
 use std::cell::Cell;
 use tus_steps::{PlacedReply, ReplyKind, Request};
@@ -76,20 +76,9 @@ fn seen_in(reply: &PlacedReply) -> SeenReply
     ensures word { result.word ≡ told_word (reply_in reply.now) }
 {
     SeenReply {
-        status: status_of(reply),
+        status: reply_status(reply),
         creation_status: creation_status_of(reply),
         word: word_of(reply),
-    }
-}
-
-fn status_of(reply: &PlacedReply) -> u16
-    ensures { result ≡ reply_status (reply_in reply.now) }
-{
-    match &reply.kind {
-        ReplyKind::Created { .. } => 201,
-        ReplyKind::Head | ReplyKind::Content(_) => 200,
-        ReplyKind::Options { .. } | ReplyKind::Patched { .. } | ReplyKind::Deleted => 204,
-        ReplyKind::Refused { refusal, .. } => refusal.status(),
     }
 }
 
@@ -101,7 +90,7 @@ fn creation_status_of(reply: &PlacedReply) -> u16
     if reply.is_patched() {
         201
     } else {
-        status_of(reply)
+        reply_status(reply)
     }
 }
 

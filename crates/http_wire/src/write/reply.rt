@@ -22,7 +22,7 @@ pub fn put_reply(page: &mut Page, reply: &PlacedReply, now: Moment, framing: Fra
     requires { length page.old ≤ EARLIER_MAX }
     ensures { page.new ≡ page.old ++ page_text (reply_in reply.now) now framing }
 {
-    let status = status_of(reply);
+    let status = reply_status(reply);
     put_opening(page, status, now);
     put_own_fields(page, reply);
     let bare = framing.bare || status == 204;
@@ -117,7 +117,8 @@ fn reason(status: u16) -> &'static [u8]
     }
 }
 
-fn status_of(reply: &PlacedReply) -> u16
+/// The status of a reply.
+pub fn reply_status(reply: &PlacedReply) -> u16
     ensures { result ≡ reply_status (reply_in reply.now) }
 {
     match &reply.kind {
