@@ -315,18 +315,18 @@ fn blocks_needed(rt: HostRuntime) {
     assert_each_needs(&rt, &pool, &body, &NEEDED);
 }
 
-// A body of "hello" is read twice onto one vector, and an empty one between.
+// A body of "hello" is read onto one vector, all of it and then a range within it, and an empty one between.
 fn assert_read_twice(rt: &impl Abort, alloc: Global, pool: &Pool, body: &Body)
     requires body { IsBodyOf pool.now body.now }
     requires len { body.now.len ≡ 5 }
 {
-    let Ok(mut bytes) = Vec::with_capacity(alloc, 10) else {
-        panic!(rt; "no memory for ten bytes");
+    let Ok(mut bytes) = Vec::with_capacity(alloc, 13) else {
+        panic!(rt; "no memory for thirteen bytes");
     };
-    body.read_onto(pool, &mut bytes);
-    Body::empty(alloc).read_onto(pool, &mut bytes);
-    body.read_onto(pool, &mut bytes);
-    assert!(rt; bytes.as_slice() == b"hellohello".as_slice());
+    body.read_onto(pool, 0, 5, &mut bytes);
+    Body::empty(alloc).read_onto(pool, 0, 5, &mut bytes);
+    body.read_onto(pool, 1, 3, &mut bytes);
+    assert!(rt; bytes.as_slice() == b"helloell".as_slice());
 }
 
 #[test]

@@ -122,9 +122,9 @@ fn a_content_is_copied_piece_by_piece(rt: HostRuntime) {
     let name = acme(1);
     let mut begun = Vec::with_capacity(rt.alloc(), 4).expect(&rt, "memory");
     book.read_ahead(&name, moment(&rt, 1000), &mut begun, 3);
-    assert!(&rt; begun.as_slice() == b"abc");
+    assert!(rt; begun.as_slice() == b"abc".as_slice());
     book.read_ahead(&name, moment(&rt, 1000), &mut begun, 3);
-    assert!(&rt; begun.as_slice() == b"abcd");
+    assert!(rt; begun.as_slice() == b"abcd".as_slice());
     assert_handed_over(&rt, &book, &name, begun, b"abcde");
 }
 
