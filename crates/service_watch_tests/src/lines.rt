@@ -49,6 +49,23 @@ fn line<'a>(moment: Moment, path: &'a [u8]) -> RequestLine<'a> {
     }
 }
 
+// A request that was refused before its head was read.
+fn headless<'a>(moment: Moment) -> RequestLine<'a> {
+    RequestLine {
+        moment,
+        peer: b"[::1]:9",
+        tenant: b"",
+        method: None,
+        path: b"",
+        status: None,
+        word: b"head",
+        received: 0,
+        sent: 18_446_744_073_709_551_615,
+        micros: 1,
+        was_sent: false,
+    }
+}
+
 fn assert_shown(rt: &impl Abort, alloc: Global, path: &[u8], expected: &[u8]) {
     let mut log = Log::new(alloc);
     assert!(rt; log.put_request(&line(moment(rt, 1_795_737_600), path)));
@@ -84,20 +101,7 @@ const REFUSED: &[u8] =
 #[test]
 fn a_request_without_a_head(rt: HostRuntime) -> Result<(), Fail> {
     let mut log = Log::new(rt.alloc());
-    let line = RequestLine {
-        moment: moment(&rt, 0),
-        peer: b"[::1]:9",
-        tenant: b"",
-        method: None,
-        path: b"",
-        status: None,
-        word: b"head",
-        received: 0,
-        sent: 18_446_744_073_709_551_615,
-        micros: 1,
-        was_sent: false,
-    };
-    assert!(rt; log.put_request(&line));
+    assert!(rt; log.put_request(&headless(moment(&rt, 0))));
     assert_waits(&rt, &log, REFUSED);
     Ok(())
 }
