@@ -9,4 +9,5 @@ pub mod Journal
 pub mod Restoring
 pub mod Turn
 pub mod Fault
+pub mod Range
 pub mod inside

@@ -77,8 +77,8 @@ impl<C: Charges, R: Ledger, M: Ledger> Desk<C, R, M> {
     /// Takes the lock for the step of this request at this moment ([`crate::Store::step`]), and gives its reply: the
     /// plain book's, after events that begin with what the desk has seen. After it the desk has seen all of them, and its
     /// own change, which is the next event. Where changes are journalled, it may be refused as Memory since there is no room
-    /// for its record; then nothing happens. The bytes of a GET are a copy, for which the lock is got anew after each 256 KiB.
-    /// It may wait for other desks.
+    /// for its record; then nothing happens. The bytes of a GET are a copy, for which the lock is got anew after each 256 KiB
+    /// where memory was reserved for all of them. It may wait for other desks.
     pub fn call<W: Wait, B: Wait + Drop>(
         &mut self,
         rt: &W,
@@ -182,7 +182,7 @@ impl<C: Charges, R: Ledger, M: Ledger> Desk<C, R, M> {
     }
 
     /// Answers a turn, and passes the gate on the way: at `Before`, then with the lock at `Locked`, if it takes the
-    /// lock, then without it at `Answered`. A HEAD of an upload is answered as [`Desk::head`] tells, without the lock, and
+    /// lock for its step, then without it at `Answered`. A HEAD of an upload is answered as [`Desk::head`] tells, without the lock, and
     /// one that is refused before that looks at nothing. All else, and a HEAD of an upload where the desk has missed the
     /// board, is answered as [`Desk::call`] does. The number of the turn is for the gate alone.
     pub fn answer<W: Wait, B: Wait + Drop, G: Gate>(

@@ -1,11 +1,14 @@
 //! The bytes of a GET are copied in ranges, and the lock is got anew for each: so nobody waits for all of them.
-ghost use Rattle.std.specs.Prelude.{◌≡◌, ◌≤◌, [], vec_capacity};
+ghost use Rattle.std.specs.Prelude.{◌≡◌, ◌≤◌, ◌-◌, [], min, vec_capacity, vec_len};
 ghost use mathlib.Core.List.{IsPrefix};
 ghost use Rattle.head_board.specs.Events.{book_at};
 ghost use Rattle.tus_shared.specs.Answers.{OnlyLooks, OnlySeesMore};
+ghost use Rattle.tus_shared.specs.Range.{range};
 ghost use Rattle.tus_steps.specs.declared.asked.Asked.TheVariants as asks;
-ghost use Rattle.upload_book.specs.Begun.{IsBegun};
+ghost use Rattle.upload_book.specs.Begun.{IsBegun, with_more};
+ghost use Rattle.upload_book.specs.Content.{content_answer};
 ghost use Rattle.upload_book.specs.declared.head_row.Name.{Name};
+ghost use Rattle.upload_book.specs.PlainBook.{answer_of};
 
 use crate::charges::Charges;
 use crate::desk::Desk;
@@ -21,7 +24,8 @@ const RANGE: usize = 262_144;
 
 impl<C: Charges, R: Ledger, M: Ledger> Desk<C, R, M> {
     /// Copies bytes of the upload that a GET asks for into memory that was reserved for all of them, range by range. The rest,
-    /// less than a range, is left to the step itself. For any other request nothing is copied. It may wait for other desks.
+    /// less than a range, is left to the step itself, as all is where no memory was reserved. For any other request nothing is
+    /// copied. It may wait for other desks.
     pub(crate) fn read_ahead<W: Wait, B: Wait + Drop>(
         &mut self,
         rt: &W,
@@ -49,8 +53,9 @@ impl<C: Charges, R: Ledger, M: Ledger> Desk<C, R, M> {
 }
 
 impl<C: Charges, R: Ledger, M: Ledger, B: Wait + Drop> Store<C, R, M, B> {
-    /// Copies the next bytes of an upload behind its first ones, which `begun` has, at most a range and as many as there is room for
-    /// ([`upload_book::Book::read_ahead`]). The desk has seen all events after it, and makes no step.
+    /// Copies the next bytes of an upload behind its first ones, which `begun` has: 256 KiB, or as many as there are or as there
+    /// is room for ([`upload_book::Book::read_ahead`]). Where a GET at `now` is refused, it copies none. The desk has seen all
+    /// events after it, and makes no step.
     pub fn read_ahead(
         &self,
         desk: &mut Desk<C, R, M>,
@@ -60,6 +65,8 @@ impl<C: Charges, R: Ledger, M: Ledger, B: Wait + Drop> Store<C, R, M, B> {
     )
         requires begun { IsBegun (book_at C.settings desk.old.seen) name.now begun.old.items }
         ensures stays { IsBegun (book_at C.settings desk.new.seen) name.now begun.new.items }
+        ensures more { begun.new.items ≡ with_more (answer_of (book_at C.settings self.now) name.now.tenant (content_answer name.now.id now))
+            (min range (vec_capacity begun.old - vec_len begun.old)) begun.old.items }
         ensures begins { IsPrefix desk.old.seen desk.new.seen }
         ensures seen { desk.new.seen ≡ self.now }
         ensures desk { OnlySeesMore desk.old desk.new }

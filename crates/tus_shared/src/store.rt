@@ -79,9 +79,10 @@ impl<C: Charges, R: Ledger, M: Ledger, B: Wait + Drop> Store<C, R, M, B> {
     /// Answers a request at a desk and applies it to the book, as the plain book does at this moment
     /// ([`tus_steps::answer`]). What it asks for was found before the lock was taken ([`tus_steps::asked_of`], under the
     /// settings of the desk), and so was the room into which the bytes of a GET are copied: memory lacks for these only where
-    /// it is too small. Their first ones may stand there already. A change that is accepted is the next event, made at this desk. The desk has seen all events after
-    /// it, and its shares rise by what the request charges and releases, and by that event. The step is counted at the desk.
-    /// The shares of other desks stay, since no other desk is lent. The reply is put to its place.
+    /// it is too small. Their first ones may stand there already. A change that is accepted is the next event, made at this
+    /// desk. The desk has seen all events after it, and its shares rise by what the request charges and releases, and by
+    /// that event. The step is counted at the desk. The shares of other desks stay, since no other desk is lent. The reply
+    /// is put to its place.
     ///
     /// Where changes are journalled, the frame of the record of the change that is asked for was made before the lock was
     /// taken. That of a change that is made is queued, and the room of the desk falls by its length. A change that the book would

@@ -67,9 +67,9 @@ where
 }
 
 /// Answers a request that asks for no change, by what [`asked_of`] found of it under the book's settings: the reply is
-/// the plain book's at this moment, and the book stays. A HEAD and a GET go over the uploads of their tenant once. The
-/// bytes of a GET are copied once, behind the first ones of them, which `begun` has. It is refused as Memory only where they are
-/// more than the capacity of `begun`, and get no more memory; nothing else takes memory.
+/// the plain book's at this moment, and the book stays. The upload of a HEAD or a GET is found by halving. The bytes of a
+/// GET are copied once, behind the first ones of them, which `begun` has. It is refused as Memory only where they are more
+/// than the capacity of `begun`, and get no more memory; nothing else takes memory.
 pub fn answer_asked(
     book: &Book,
     request: &Request,

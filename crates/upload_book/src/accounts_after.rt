@@ -22,8 +22,8 @@ use crate::restored::RestoredUpload;
 
 impl Book {
     /// The accounts after a change for which the book is ready. For a DELETE and a sweep they go over the tenant's pieces
-    /// once for each piece of an upload that ends and, where a sweep ends any, over the uploads of all tenants. A sweep
-    /// that ends none looks at no upload.
+    /// once for each piece of an upload that ends whose blocks others hold too and, where a sweep ends any, over the
+    /// uploads of all tenants. A sweep that ends none looks at no upload.
     pub(crate) fn accounts_after(&self, step: &Step) -> Accounts
         requires { IsReadyForStep self.now step.now }
         ensures { result ≡ accounts_of (book_after_change (plain_of self.now) (step_change step.now) (step_moment step.now)) }

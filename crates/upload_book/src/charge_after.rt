@@ -1,8 +1,8 @@
 //! What a tenant will pay once uploads have ended, found before any of them ends, and without memory.
 //!
 //! A tenant pays each origin once: the most blocks that a piece of it takes. So of a piece that ends its tenant no
-//! longer pays the blocks that it takes beyond those of every other piece of its origin. A block that is held once tells
-//! that there is none, so only pieces that uploads share are sought.
+//! longer pays the blocks that it takes beyond those of every other piece of its origin. A piece without bytes takes none,
+//! and a block that is held once tells that there is no other: so only pieces that uploads share are sought.
 ghost use Rattle.std.specs.Prelude.{◌≡◌, ◌+◌, ◌<◌, ◌^◌, Some, get_or, length};
 ghost use Rattle.std.specs.List.{remove};
 ghost use Rattle.upload_book.specs.Charge.{price};
@@ -84,8 +84,11 @@ impl StoredTenant {
         let upload = &self.uploads[place];
         let mut released = 0;
         for piece in 0..upload.piece_count() {
-            let held = self.price_elsewhere(place, piece, ended, size, pool);
-            released += upload.blocks(piece, size).saturating_sub(held);
+            let blocks = upload.blocks(piece, size);
+            if blocks > 0 {
+                let held = self.price_elsewhere(place, piece, ended, size, pool);
+                released += blocks.saturating_sub(held);
+            }
         }
         released
     }

@@ -71,7 +71,7 @@ impl ExpiryList {
         self.list.as_slice()
     }
 
-    /// The last of those that expire until a moment, if one does. It is found by halving.
+    /// One of those that expire until a moment, if any does: the last, so that few move when it leaves. It is found by halving.
     pub(crate) fn last_until(&self, now: Moment) -> Option<Expiring>
         ensures listed { IfSome result (λ x. Contains self.now.list x) }
         ensures expired { IfSome result (λ x. x.at ≤ now) }

@@ -31,8 +31,8 @@ impl<'a> Ready<'a> {
     /// and the accounts after it. It takes no memory and changes nothing, so it can be told before [`Book::commit`].
     ///
     /// A row copies as much of its texts as they have. The accounts of a DELETE and of a sweep go over the tenant's
-    /// pieces once for each piece of an upload that ends and, where a sweep ends any, over the uploads of all tenants. A
-    /// sweep that ends none looks at no upload.
+    /// pieces once for each piece of an upload that ends whose blocks others hold too and, where a sweep ends any, over
+    /// the uploads of all tenants. A sweep that ends none looks at no upload.
     pub fn line(&self, book: &Book) -> BoardLine
         requires { IsReady book.now self.now }
         ensures value { line_of (plain_of book.now) (change_in self.now) (moment_in self.now) ≡ Some result }

@@ -11,6 +11,7 @@ use Rattle.upload_book.specs.TenantBook.{Entry}
 use Rattle.upload_book.proofs.Charge.ChargeAfterLemmas.{IsReleasedTo, cost-apart, left_to-le, released-all, released-more}
 use Rattle.upload_book.proofs.Store.Pieces.{Contains-entry}
 use Rattle.upload_book.proofs.stored_tenant.StoredTenant.released.Goals as goal
+use Rattle.upload_book.proofs.stored_tenant.StoredTenant.released.Goals.{then-blocks-gt0, else-blocks-gt0}
 
 -- no piece
 abbrev no_piece : Piece
@@ -50,17 +51,25 @@ price_elsewhere-held-requires-clause-piece c =
 
 pub loop-piece-preserved : goal.loop-piece-preserved
 loop-piece-preserved c =
-    found c.args.self.now c.args.size c.args.place c.args.ended.now.at c.index-upload.result.now c.loop-piece.piece c.loop-piece.released c.price_elsewhere-held.result c.blocks-in-loop-piece.result c.saturating_sub-released.result c.requires.paid c.requires.place c.index-upload.ensures
-    (omega (arith, c.loop-piece-test.true, c.piece_count-piece-end.ensures))
-    (elsewhere c.args.self.now c.args.size c.args.place c.loop-piece.piece c.price_elsewhere-held.result c.args.ended.now.at c.index-upload.result.now c.index-upload.ensures c.price_elsewhere-held.ensures)
-    c.blocks-in-loop-piece.ensures c.saturating_sub-released.ensures c.loop-piece.invariant
+    let within : c.loop-piece.piece < length c.index-upload.result.now.kept.pieces = omega (arith, c.loop-piece-test.true, c.piece_count-piece-end.ensures) in
+    elim c.if-blocks-gt0.branch [
+      | then-blocks-gt0 w ↦
+          let next = found c.args.self.now c.args.size c.args.place c.args.ended.now.at c.index-upload.result.now c.loop-piece.piece c.loop-piece.released w.price_elsewhere-held.result c.blocks-blocks.result w.saturating_sub-released.result c.requires.paid c.requires.place c.index-upload.ensures within
+          (elsewhere c.args.self.now c.args.size c.args.place c.loop-piece.piece w.price_elsewhere-held.result c.args.ended.now.at c.index-upload.result.now c.index-upload.ensures w.price_elsewhere-held.ensures)
+          c.blocks-blocks.ensures w.saturating_sub-released.ensures c.loop-piece.invariant in
+          omega (arith, next, w.released-is)
+      | else-blocks-gt0 w ↦
+          let next = found c.args.self.now c.args.size c.args.place c.args.ended.now.at c.index-upload.result.now c.loop-piece.piece c.loop-piece.released _ c.blocks-blocks.result 0 c.requires.paid c.requires.place c.index-upload.ensures within refl
+          c.blocks-blocks.ensures (omega (arith, w.if-blocks-gt0.false)) c.loop-piece.invariant in
+          omega (arith, next, w.released-is)
+    ]
 
 pub overflow_add-released : goal.overflow_add-released
 overflow_add-released c =
-    let next = found c.args.self.now c.args.size c.args.place c.args.ended.now.at c.index-upload.result.now c.loop-piece.piece c.loop-piece.released c.price_elsewhere-held.result c.blocks-in-loop-piece.result c.saturating_sub-released.result c.requires.paid c.requires.place c.index-upload.ensures
+    let next = found c.args.self.now c.args.size c.args.place c.args.ended.now.at c.index-upload.result.now c.loop-piece.piece c.loop-piece.released c.price_elsewhere-held.result c.blocks-blocks.result c.saturating_sub-released.result c.requires.paid c.requires.place c.index-upload.ensures
     (omega (arith, c.loop-piece-test.true, c.piece_count-piece-end.ensures))
     (elsewhere c.args.self.now c.args.size c.args.place c.loop-piece.piece c.price_elsewhere-held.result c.args.ended.now.at c.index-upload.result.now c.index-upload.ensures c.price_elsewhere-held.ensures)
-    c.blocks-in-loop-piece.ensures c.saturating_sub-released.ensures c.loop-piece.invariant in
+    c.blocks-blocks.ensures c.saturating_sub-released.ensures c.loop-piece.invariant in
     let small = fits c.args.self.now c.args.size c.args.place c.args.ended.now.at c.index-upload.result.now (c.loop-piece.piece + 1) (c.loop-piece.released + c.saturating_sub-released.result) c.requires.paid c.requires.place c.index-upload.ensures next in
     omega (arith, small)
 
