@@ -41,6 +41,16 @@ def becomes(journal, inode, is_it=True):
     return False
 
 
+def names_after(folder):
+    """The names in the folder, once none is of a journal that is being put in its place any more, or after half a minute."""
+    for _ in range(300):
+        names = names_in(folder)
+        if not any(name.startswith('journal.new') for name in names):
+            break
+        time.sleep(0.1)
+    return names
+
+
 with tempfile.TemporaryDirectory() as parent:
     folder = os.path.join(parent, 'uploads')
     journal, copying = os.path.join(folder, 'journal'), os.path.join(folder, 'copying')
@@ -57,7 +67,7 @@ with tempfile.TemporaryDirectory() as parent:
         pass_by(client, (3, 4, 5, 6))
         print('large:', os.path.getsize(journal) > LARGE)
         print('small:', is_small(journal), oct(os.stat(journal).st_mode & 0o777))
-        print(*names_in(folder))
+        print(*names_after(folder))
         # The file of before is used again, with what it held behind the zeros. The one that is the journal's now has a second
         # name, so it is not.
         second = os.stat(journal).st_ino
@@ -65,7 +75,7 @@ with tempfile.TemporaryDirectory() as parent:
         os.link(journal, copying)
         pass_by(client, (7, 8, 9, 10))
         print('in turn:', second != first, becomes(journal, first), oct(os.stat(journal).st_mode & 0o777))
-        print(*names_in(folder))
+        print(*names_after(folder))
         print('no longer than may be:', os.path.getsize(journal) <= 72 * MIB)
         os.remove(copying)
         client.sendall(patch('/files/acme/2', 1000, KEPT[1000:1500]))
@@ -74,7 +84,7 @@ with tempfile.TemporaryDirectory() as parent:
         print(*checked.stdout.split()[:6], *checked.stdout.split()[-2:])
         pass_by(client, (11, 12, 13, 14))
         print('anew:', becomes(journal, first, is_it=False))
-        print(*names_in(folder))
+        print(*names_after(folder))
     server.process.kill()
     server.process.wait()
     words[words.index('--blocks') + 1] = '4096'
