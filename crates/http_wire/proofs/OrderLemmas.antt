@@ -4,7 +4,7 @@ use Rattle.std.specs.Bool.{MatchBool}
 use Rattle.std.specs.Prelude.{codes}
 use Rattle.std.specs.Result.{result_err}
 use Rattle.httparse.specs.Grammar.{RequestHead}
-use Rattle.upload_book.specs.Order.{order, stand_in}
+use Rattle.upload_book.specs.laws.Order.{order, stand_in}
 use Rattle.upload_book.specs.Refusal.{first_that_holds}
 use Rattle.tus_steps.specs.Field.{FieldText, is_absent}
 use Rattle.tus_steps.specs.Method.{is_applied_when_cut}

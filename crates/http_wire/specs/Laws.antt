@@ -1,7 +1,7 @@
 -- Laws above the definitions: an input that comes in two parts, and what an input begins with.
 use Rattle.std.specs.Prelude.{◌≡◌, ◌≤◌, ◌⊎◌, ◌↔◌, ℕ, ◌+◌, Bool, true, List, [], ◌++◌, length, Option}
 use Rattle.httparse.specs.Grammar.{RequestHead}
-use Rattle.upload_book.specs.Order.{order, stand_in}
+use Rattle.upload_book.specs.laws.Order.{order, stand_in}
 use Rattle.tus_steps.specs.Request.{Request}
 use Rattle.tus_steps.specs.declared.reply.Reply.{Reply}
 use Rattle.http_wire.specs.Asking.{BreaksAsked}

@@ -3,7 +3,7 @@ use Rattle.std.specs.Prelude.{◌≡◌, Bool, true, not, List, [], ◌∷◌, i
 use Rattle.std.specs.Result.{result_err}
 use Rattle.upload_book.specs.declared.refusal.Refusal.{Refusal}
 use Rattle.upload_book.specs.declared.refusal.Refusal.TheVariants as refusal
-use Rattle.upload_book.specs.Order.{order, stand_in}
+use Rattle.upload_book.specs.laws.Order.{order, stand_in}
 use Rattle.upload_book.specs.Refusal.{first_that_holds, words_of}
 use Rattle.upload_book.specs.Settings.{Settings, tenant_place}
 use Rattle.tus_steps.specs.Operation.{has_version, operation_on, operation_of}

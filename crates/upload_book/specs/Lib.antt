@@ -24,7 +24,6 @@ pub mod Look
 pub mod NewFinal
 pub mod NewUpload
 pub mod Operation
-pub mod Order
 pub mod PlainBook
 pub mod Progress
 pub mod Ready

@@ -20,7 +20,7 @@ use Rattle.upload_book.specs.Heads.{apply_line, heads_of}
 use Rattle.upload_book.specs.HeadSteps.{MayFollow}
 use Rattle.upload_book.specs.Lawful.{IsLawful, IsTenantOf}
 use Rattle.upload_book.specs.Look.{row_of}
-use Rattle.upload_book.specs.Order.{order, stand_in}
+use Rattle.upload_book.specs.laws.Order.{order, stand_in}
 use Rattle.upload_book.specs.PlainBook.{PlainBook}
 use Rattle.upload_book.specs.Refusal.{first_that_holds, word_of, words_of}
 use Rattle.upload_book.specs.declared.refusal.Refusal.TheVariants.{Gone, Memory, Unknown}
