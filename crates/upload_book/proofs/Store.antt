@@ -13,6 +13,8 @@ pub mod BackLemmas
 pub mod BackGrows
 pub mod StoreSteps
 pub mod StoreGone
+pub mod SweptLemmas
+pub mod StoreSwept
 pub mod AloneLemmas
 pub mod StayLemmas
 pub mod OwnLemmas

@@ -1,8 +1,9 @@
 -- The uploads that expire, in the order in which they do (tus 1.0.0, Expiration).
-use Rattle.std.specs.Prelude.{◌≡◌, ◌↔◌, ℕ, Bool, true, ◌&&◌, ◌==◌, nat_lt, List, Contains, Option, Some, if◌then◌else◌}
+use Rattle.std.specs.Prelude.{◌≡◌, ◌↔◌, ℕ, Bool, true, ◌&&◌, ◌==◌, nat_lt, List, Contains, Option, None, Some, if◌then◌else◌}
 use Rattle.std.specs.List.{AllPairs}
 use Rattle.upload_book.specs.declared.expiry_list.Expiring.{Expiring}
 use Rattle.upload_book.specs.declared.head_row.Name.{Name}
+use Rattle.upload_book.specs.Expiry.{has_expired}
 
 -- an upload that expires comes before another: by the moment, then by its tenant's place, then by its id
 abbrev pub comes_before : Expiring → Expiring → Bool
@@ -26,6 +27,10 @@ is_same_name a b = a.tenant == b.tenant && a.id == b.id
 -- the ends with another one of a name
 abbrev pub with_end : Ends → Name → Option ℕ → Ends
 with_end ends name end other = if is_same_name other name then end else ends other
+
+-- the ends that are later than a moment
+abbrev pub ends_after : ℕ → Ends → Ends
+ends_after now ends name = if has_expired now (ends name) then None else ends name
 
 -- a list has exactly the uploads that expire, each with its end and once, in their order
 pub record AreExpiring (ends : Ends) (list : List Expiring) : Type 0 where

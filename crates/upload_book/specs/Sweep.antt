@@ -30,13 +30,6 @@ book_after_sweep b now = record b {
   released = b.released + swept_blocks b now;
 }
 
--- Of the uploads that a sweep ends one has ended, which gave so many blocks back: a sweep of what is left ends one fewer,
--- gives back so many blocks fewer, and then the book is the one after the whole sweep.
-pub record EndsOne (b : PlainBook) (now blocks : ℕ) (after : PlainBook) : Type 0 where
-  pub uploads : (sweep_answer b now).uploads ≡ (sweep_answer after now).uploads + 1
-  pub back : swept_blocks b now ≡ swept_blocks after now + blocks
-  pub book : book_after_sweep after now ≡ book_after_sweep b now
-
 -- a sweep ends nothing
 pub record EndsNone (b : PlainBook) (now : ℕ) : Type 0 where
   pub uploads : (sweep_answer b now).uploads ≡ 0

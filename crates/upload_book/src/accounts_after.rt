@@ -164,7 +164,7 @@ impl Book {
     fn accounts_swept(&self, now: Moment) -> Accounts
         ensures { result ≡ accounts_of (book_after_sweep (plain_of self.now) now) }
     {
-        if self.last_expired(now).is_none() {
+        if self.ends_none(now) {
             return self.accounts();
         }
         let charge = self.store.charges_swept(now);

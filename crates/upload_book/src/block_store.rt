@@ -1,4 +1,4 @@
-ghost use Rattle.std.specs.Prelude.{◌≡◌, ◌≢◌, ℕ, ◌++◌, drop, vec_len, ◌+◌, ◌-◌, ◌<◌, ◌≤◌, ◌^◌, ◌==◌, List, [], length, map, min, option_map, position, set, slice_get, take, vec_capacity, All, None, Some, IfOk, IfErr, IfSome, IfNone, IsOk, IsTrue, OnOk, OnErr};
+ghost use Rattle.std.specs.Prelude.{◌≡◌, ◌≢◌, ℕ, ◌++◌, drop, vec_len, ◌+◌, ◌-◌, ◌<◌, ◌≤◌, ◌^◌, ◌==◌, List, [], length, map, min, option_map, set, slice_get, take, vec_capacity, All, None, Some, IfOk, IfErr, IfSome, IfNone, IsOk, IsTrue, OnOk, OnErr};
 ghost use Rattle.std.specs.List.{list_all, range_with_len, sum_by};
 ghost use Rattle.block_pool.specs.Blocks.{IsWithinLimits, all_free, free_in, size_of};
 ghost use Rattle.upload_book.specs.Account.{blocks_between};
@@ -214,16 +214,6 @@ impl BlockStore {
             Some(stored_tenant) => stored_tenant.visible(name.id, now),
             None => Err(Refusal::Unknown),
         }
-    }
-
-    /// The place, in its tenant's part, of the upload of this name, whether it has expired or not; `None` where there is
-    /// none.
-    pub(crate) fn find(&self, name: &Name) -> Option<usize>
-        ensures { result ≡ position (λ e. e.id == name.now.id) (stored_tenant_at self.now name.now.tenant).uploads }
-    {
-        self.stored_tenants
-            .get(usize::from(name.tenant))?
-            .place(name.id)
     }
 
     /// When the upload at a place expires, if it does.
@@ -638,6 +628,39 @@ impl BlockStore {
         stored_tenant.spare.push_reserved(texts);
         stored_tenant.charge -= freed;
         freed
+    }
+
+    /// Ends all uploads that have expired at `now`. Gives how many they were. It goes over all uploads once.
+    pub(crate) fn sweep(&mut self, now: Moment) -> usize
+        requires few { sum_by (λ part. length part.uploads) (plain_in self.old) < 2 ^ 64 }
+        ensures plain { plain_in self.new ≡ map (part_after_sweep now) (plain_in self.old) }
+        ensures ended { result + sum_by (λ part. length part.uploads) (plain_in self.new)
+            ≡ sum_by (λ part. length part.uploads) (plain_in self.old) }
+        ensures sizes { SameSizes self.old.pool self.new.pool }
+        ensures room_stays { self.new.room ≡ self.old.room }
+    {
+        let mut ended = 0;
+        for tenant in 0..self.tenants() {
+            ended += self.sweep_tenant(tenant, now);
+        }
+        ended
+    }
+
+    // Ends the uploads of a tenant that have expired at `now`. Gives how many they were.
+    fn sweep_tenant(&mut self, tenant: usize, now: Moment) -> usize
+        requires { tenant < length self.old.stored_tenants }
+        ensures plain { plain_in self.new ≡ set (plain_in self.old) tenant
+            (part_after_sweep now (part_at self.old tenant)) }
+        ensures ended { result + length (part_after_sweep now (part_at self.old tenant)).uploads
+            ≡ length (part_at self.old tenant).uploads }
+        ensures sizes { SameSizes self.old.pool self.new.pool }
+        ensures room_stays { self.new.room ≡ self.old.room }
+    {
+        let before = self.pool.free();
+        let stored_tenant = &mut self.stored_tenants[tenant];
+        let ended = stored_tenant.sweep(now, &mut self.pool);
+        stored_tenant.charge -= u64::from(self.pool.free() - before);
+        ended
     }
 
     /// How many tenants there are.

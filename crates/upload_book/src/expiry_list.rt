@@ -1,7 +1,7 @@
 //! The uploads that expire, in the order in which they do.
-ghost use Rattle.std.specs.Prelude.{◌≡◌, ◌+◌, ◌<◌, ◌≤◌, true, false, [], ◌∷◌, length, slice_get, Contains, ℕ, None, IfOk, IfNone, IfSome, IsSome};
+ghost use Rattle.std.specs.Prelude.{◌≡◌, ◌↔◌, ◌+◌, ◌<◌, ◌≤◌, true, false, [], ◌∷◌, length, slice_get, Contains, ℕ, None, IfOk, IfSome, IsSome, IsTrue};
 ghost use Rattle.std.specs.List.Sorted.{IsPartitionPoint, IsPermutation};
-ghost use Rattle.upload_book.specs.ExpiryList.{comes_before, with_end, AreExpiring, Ends, IsAscending, KnowsEnd};
+ghost use Rattle.upload_book.specs.ExpiryList.{comes_before, ends_after, with_end, AreExpiring, Ends, IsAscending, KnowsEnd};
 
 use crate::head_row::Name;
 use crate::moment::Moment;
@@ -71,15 +71,24 @@ impl ExpiryList {
         self.list.as_slice()
     }
 
-    /// One of those that expire until a moment, if any does: the last, so that few move when it leaves. It is found by halving.
-    pub(crate) fn last_until(&self, now: Moment) -> Option<Expiring>
-        ensures listed { IfSome result (λ x. Contains self.now.list x) }
-        ensures expired { IfSome result (λ x. x.at ≤ now) }
-        ensures none { IfNone result (IfSome (slice_get self.now.list 0) (λ x. now < x.at)) }
+    /// Whether none expires until a moment. It looks at the first.
+    pub(crate) fn begins_after(&self, now: Moment) -> bool
+        ensures { IsTrue result ↔ IfSome (slice_get self.now.list 0) (λ x. now < x.at) }
+    {
+        match self.list.first() {
+            Some(expiring) => now < expiring.at,
+            None => true,
+        }
+    }
+
+    /// Takes out those that expire until a moment, which stand before all others. They are found by halving, and the others
+    /// move once.
+    pub(crate) fn leave_until(&mut self, now: Moment)
+        ensures ends { (ends : Ends) → AreExpiring ends self.old.list → AreExpiring (ends_after now ends) self.new.list }
+        ensures room_stays { self.new.room ≡ self.old.room }
     {
         let count = self.list.partition_point(|expiring| expiring.at <= now);
-        let last = count.checked_sub(1)?;
-        Some(self.list[last])
+        self.list.drain(..count);
     }
 
     // Enters one that is not there, at its place in the order, for which there is room. It finds the place by

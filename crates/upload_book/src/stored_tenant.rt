@@ -1,15 +1,23 @@
-ghost use Rattle.std.specs.Prelude.{◌≡◌, ◌==◌, ◌++◌, ◌<◌, ◌≤◌, None, IfOk, IfErr, IfSome, IfNone, flat_map, get_or, is_some, length, option_map, position, take};
+ghost use Rattle.std.specs.Prelude.{◌≡◌, ◌==◌, ℕ, ◌++◌, ◌+◌, ◌-◌, ◌<◌, ◌≤◌, None, Some, IfOk, IfErr, IfSome, IfNone, drop, flat_map, get_or, is_some, length, option_map, position, take, vec_capacity, vec_len};
+ghost use Rattle.std.specs.List.Sorted.{IsPermutation};
+ghost use Rattle.block_pool.specs.Blocks.{free_in};
+ghost use Rattle.block_bodies.specs.Bodies.{IsHeld};
+ghost use Rattle.block_bodies.specs.Changes.{GivesBack};
+ghost use Rattle.upload_book.specs.inside.ChargeAfter.{left};
 ghost use Rattle.upload_book.specs.inside.FinalBack.{chain_from};
 ghost use Rattle.upload_book.specs.Stored as stored;
-ghost use Rattle.upload_book.specs.Stored.{part_kept, pieces_of};
+ghost use Rattle.upload_book.specs.inside.Swept.{EndsExpired};
+ghost use Rattle.upload_book.specs.Stored.{part_kept, pieces_of, placed_in};
 ghost use Rattle.upload_book.specs.TenantBook.{Entry, opening_part, visible_in};
 
+use crate::charge_after::Ended;
 use crate::head_row::Kind;
 use crate::moment::Moment;
 use crate::refusal::Refusal;
 use crate::stored_upload::StoredUpload;
 use crate::texts::Texts;
 use block_bodies::Body;
+use block_pool::Pool;
 use std::alloc::{AllocError, Global};
 
 /// A tenant's part of the book: its quota in blocks, the id that its next upload gets, the blocks that it
@@ -108,6 +116,24 @@ impl StoredTenant {
         }
     }
 
+    /// Ends the uploads that have expired at `now`: each of their blocks is held once less, and their boxes are spare. Gives how
+    /// many they were. It goes over the uploads once, and over the blocks of those that end.
+    pub(crate) fn sweep(&mut self, now: Moment, pool: &mut Pool) -> usize
+        requires held { IsHeld pool.old (placed_in (pieces_of (stored_tenant_of self.old))) }
+        requires room { vec_len self.old.uploads + vec_len self.old.spare ≤ vec_capacity self.old.spare }
+        ensures ends { EndsExpired now pool.old self.old.uploads.items pool.new self.new.uploads.items }
+        ensures ended { result + length self.new.uploads.items ≡ length self.old.uploads.items }
+        ensures quota { self.new.quota ≡ self.old.quota }
+        ensures next { self.new.next ≡ self.old.next }
+        ensures charge { self.new.charge ≡ self.old.charge }
+        ensures room_stays { (room : ℕ) → HasUploadRoom room self.old → HasUploadRoom room self.new }
+    {
+        let before = self.uploads.len();
+        let left = gather_left(&mut self.uploads, now);
+        end_from(left, &mut self.uploads, pool, &mut self.spare);
+        before - left
+    }
+
     // The uploads before a place that stand under this id or a later one. No other has a piece of this origin.
     fn since(&self, place: usize, origin: u64) -> &[StoredUpload]
         requires order { AreInOrder (stored_tenant_of self.now) }
@@ -131,4 +157,46 @@ fn first_chain(uploads: &[StoredUpload], origin: u64) -> Option<&Body>
         }
     }
     None
+}
+
+// Moves the uploads that have expired at `now` behind the others, which stay in their order. Gives how many these are.
+fn gather_left(uploads: &mut Vec<StoredUpload>, now: Moment) -> usize
+    ensures left { take result uploads.new.items ≡ left (Some now) uploads.old.items }
+    ensures moved { IsPermutation uploads.old.items uploads.new.items }
+    ensures within { result ≤ length uploads.new.items }
+    ensures capacity { vec_capacity uploads.new ≡ vec_capacity uploads.old }
+{
+    let ended = Ended { at: Some(now) };
+    let mut left = 0;
+    for place in 0..uploads.len() {
+        if uploads[place].is_left(&ended) {
+            uploads.swap(left, place);
+            left += 1;
+        }
+    }
+    left
+}
+
+// Ends the uploads from a place on, and puts their boxes to the spare ones, which have room for them.
+fn end_from(
+    place: usize,
+    uploads: &mut Vec<StoredUpload>,
+    pool: &mut Pool,
+    spare: &mut Vec<Box<Texts>>,
+)
+    requires place { place ≤ length uploads.old.items }
+    requires held { IsHeld pool.old (placed_in (flat_map (λ e. e.kept.pieces) (drop place uploads.old.items))) }
+    requires room { vec_len uploads.old + vec_len spare.old ≤ vec_capacity spare.old }
+    ensures uploads { uploads.new.items ≡ take place uploads.old.items }
+    ensures gives { GivesBack pool.old (placed_in (flat_map (λ e. e.kept.pieces) (drop place uploads.old.items)))
+        (free_in pool.new - free_in pool.old) pool.new }
+    ensures capacity { vec_capacity uploads.new ≡ vec_capacity uploads.old }
+    ensures boxes { vec_len uploads.new + vec_len spare.new ≡ vec_len uploads.old + vec_len spare.old }
+    ensures spare_room { vec_capacity spare.new ≡ vec_capacity spare.old }
+{
+    while uploads.len() > place {
+        let upload = uploads.pop().unwrap();
+        let (_, texts) = upload.give_back(pool);
+        spare.push_reserved(texts);
+    }
 }

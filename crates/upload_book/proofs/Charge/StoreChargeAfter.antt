@@ -1,10 +1,9 @@
 -- What a tenant of the store will pay once uploads have ended.
 use Rattle.std.proofs.Common.{◌≡◌, ℕ, Bool, true, false, cond, not, List, [], ◌∷◌, map, Some, refl, ap, sym, ◌∙◌, arith}
-use Rattle.std.specs.List.{Contains, filter, remove}
+use Rattle.std.specs.List.{filter, remove}
 use Rattle.std.proofs.lemmas.List.Elements.{All-filter}
 use Rattle.block_pool.specs.Blocks.{Blocks}
 use Rattle.upload_book.specs.Charge.{charge_with}
-use Rattle.upload_book.specs.declared.pieces.Piece.{Piece}
 use Rattle.upload_book.specs.declared.stored_tenant.StoredTenant.{StoredTenant as KeptTenant}
 use Rattle.upload_book.specs.declared.block_store.BlockStore.TheInside.{Inside}
 use Rattle.upload_book.specs.Expiry.{has_expired}
@@ -17,11 +16,11 @@ use Rattle.upload_book.specs.inside.Pieces.{HasOwnPiece}
 use Rattle.upload_book.specs.Sweep.{part_after_sweep}
 use Rattle.upload_book.specs.TenantBook.{Entry}
 use Rattle.upload_book.specs.Upload.{Upload}
-use Rattle.upload_book.proofs.Lawful.Entries.{Contains-filter}
 use Rattle.upload_book.proofs.Charge.InUse.{blocks_in_use}
-use Rattle.upload_book.proofs.Store.Pieces.{All-remove, Contains-flat_map, Contains-without, flat_map-contains, kept_pieces, without}
+use Rattle.upload_book.proofs.Store.Pieces.{All-remove, Contains-without, without}
 use Rattle.upload_book.proofs.Charge.PlainCharge.{charge-plain}
 use Rattle.upload_book.proofs.Store.PlainStoredTenants.{part-without}
+use Rattle.upload_book.proofs.Store.SweptLemmas.{pieces-swept, swept_stored_tenant}
 use Rattle.upload_book.proofs.Store.StoredTenants.{IsStoredOn-stored_tenant}
 use Rattle.upload_book.proofs.Store.StoredTenants.{places_on-held}
 use Rattle.upload_book.proofs.Store.StoreAppend.{charge-few}
@@ -49,10 +48,7 @@ charge-without v t place old kept is =
     ∙ ap (charge_with v.pool.block_size) (part-without v.pool v.pool (stored_tenant_of old) place (λ b some. refl))
     ∙ ap (λ (s : StoredTenant). charge_with v.pool.block_size (without_upload (part_of v.pool s) place)) (sym (stored_tenant_at-part v t old is))
 
--- the stored part without the uploads that have expired
-abbrev swept_stored_tenant : ℕ → StoredTenant → StoredTenant
-swept_stored_tenant now stored_tenant = record stored_tenant { uploads = left (Some now) stored_tenant.uploads }
-
+-- the uploads that are left, as the plain book has them
 entries-swept : (p : Blocks) (now : ℕ) (entries : List (Entry StoredUpload))
     → map {A = Entry StoredUpload} {B = Entry Upload} (entry_of p) (left (Some now) entries) ≡ filter (λ e. not (has_expired now e.kept.expires)) (map {A = Entry StoredUpload} {B = Entry Upload} (entry_of p) entries)
 entries-swept p now [] = refl
@@ -63,15 +59,9 @@ entries-swept p now (e ∷ entries) = by_test (not (has_expired now e.kept.expir
   by_test false rest plain is = is
 
 -- as the plain book has it
-part-swept : (p : Blocks) (now : ℕ) (stored_tenant : StoredTenant) → part_of p (swept_stored_tenant now stored_tenant) ≡ part_after_sweep now (part_of p stored_tenant)
+pub part-swept : (p : Blocks) (now : ℕ) (stored_tenant : StoredTenant) → part_of p (swept_stored_tenant now stored_tenant) ≡ part_after_sweep now (part_of p stored_tenant)
 part-swept p now stored_tenant =
     ap (λ (uploads : List (Entry Upload)). record (part_of p stored_tenant) { uploads = uploads }) (entries-swept p now stored_tenant.uploads)
-
--- its pieces were there
-pieces-swept : (now : ℕ) (stored_tenant : StoredTenant) (x : Piece) → Contains (pieces_of (swept_stored_tenant now stored_tenant)) x → Contains (pieces_of stored_tenant) x
-pieces-swept now stored_tenant x c =
-    let found = Contains-flat_map kept_pieces (left (Some now) stored_tenant.uploads) x c in
-    flat_map-contains kept_pieces stored_tenant.uploads found.0 x (Contains-filter (λ (e : Entry StoredUpload). not (has_expired now e.kept.expires)) stored_tenant.uploads found.0 found.1) found.2
 
 -- what it will pay after a sweep, by the plain book
 pub charge-swept : (v : Inside) (t now : ℕ) (old : KeptTenant) → IsKept v → IsPart v t old

@@ -1,21 +1,27 @@
 -- When the uploads of a book expire after a change of one tenant's part.
-use Rattle.std.proofs.Common.{◌≡◌, ◌≢◌, ℕ, ◌<◌, cond, eqb, not, List, [], ◌∷◌, ◌++◌, length, Option, Some, None, refl, inl, inr, sym, ap, ◌∙◌, arith}
+use Rattle.std.proofs.Common.{◌≡◌, ◌≢◌, ◌⊎◌, ℕ, ◌<◌, Bool, true, false, cond, eqb, not, List, [], ◌∷◌, ◌++◌, length, Option, Some, None, refl, inl, inr, sym, ap, ◌∙◌, subst, arith}
 use Rattle.std.proofs.lemmas.Option.{none-some}
 use Rattle.std.specs.List.{All, filter}
+use Rattle.std.specs.List.Sorted.{IsStrictlyIncreasing}
 use Rattle.std.specs.Option.{option_and_then}
-use Rattle.std.proofs.lemmas.Bool.{cases_lt, eq-eqb}
+use Rattle.std.proofs.lemmas.Bool.{cases_lt, eq-eqb, false≢true}
 use Rattle.std.proofs.lemmas.Bool.Decides.{eqb_tells}
 use Rattle.std.proofs.lemmas.List.{get_or_past, get_or-set_same, get_or-set_other}
-use Rattle.std.proofs.lemmas.List.Elements.{All-head, All-tail}
+use Rattle.std.proofs.lemmas.List.Elements.{All-contains, All-head, All-tail, filter_passes}
+use Rattle.std.proofs.Math.ListN.{get_or-map}
 use Rattle.upload_book.specs.declared.head_row.Name.{Name}
 use Rattle.upload_book.specs.Expiries.{end_in, ends_of}
-use Rattle.upload_book.specs.ExpiryList.{with_end}
+use Rattle.upload_book.specs.Expiry.{has_expired}
+use Rattle.upload_book.specs.ExpiryList.{ends_after, with_end}
+use Rattle.upload_book.specs.Lawful.{IsLawful}
 use Rattle.upload_book.specs.PlainBook.{PlainBook, tenant_book, with_tenant_book}
+use Rattle.upload_book.specs.Sweep.{book_after_sweep, part_after_sweep}
 use Rattle.upload_book.specs.TenantBook.{TenantBook, Entry, kept_in, opening_part, with_changed, with_new}
 use Rattle.upload_book.specs.Terminate.{without}
 use Rattle.upload_book.specs.Upload.{Upload}
 use Rattle.upload_book.proofs.Expiries.EndsLemmas.{same_name-tells, with_end-same, with_end-other}
-use Rattle.upload_book.proofs.Lawful.Entries.{kept_in-push, kept_in-with_other, kept_in-with_same}
+use Rattle.upload_book.proofs.Lawful.Entries.{ids_of, kept_in-contains, kept_in-filter, kept_in-push, kept_in-with_other, kept_in-with_same}
+use Rattle.upload_book.proofs.Lawful.FinalLemmas.{kept-filter}
 
 module _ {K : Type 0} where
   -- an id above all others has nothing,
@@ -113,3 +119,41 @@ tenant-there b name at told = elim (cases_lt name.tenant (length b.tenants)) [
   | inl within ↦ within
   | inr past ↦ absurd (none-some at (ap (λ (part : TenantBook). end_in part name.id) (sym (get_or_past b.tenants name.tenant (opening_part 0) past)) ∙ told))
 ]
+
+-- an upload that a sweep leaves
+abbrev stays : ℕ → Entry Upload → Bool
+stays now e = not (has_expired now e.kept.expires)
+
+-- After a sweep an id has the end that it had, where that is later.
+end-swept : (now id : ℕ) (entries : List (Entry Upload)) → IsStrictlyIncreasing (ids_of entries)
+    → end_kept (kept_in (filter (stays now) entries) id) ≡ cond (has_expired now (end_kept (kept_in entries id))) None (end_kept (kept_in entries id))
+end-swept now id entries ascending = by_kept (kept_in entries id) refl (kept_in-filter (stays now) entries id ascending) where
+  gone : (u : Upload) → has_expired now u.expires ≡ true → kept_in (filter (stays now) entries) id ≡ Some u → ⊥
+  gone u over there =
+      let passes = All-contains (λ e. stays now e ≡ true) (filter (stays now) entries) (record { id = id; kept = u }) (filter_passes (stays now) entries) (kept_in-contains (filter (stays now) entries) id u there) in
+      false≢true (ap not (sym over) ∙ passes)
+
+  by_test : (u : Upload) (over : Bool) → has_expired now u.expires ≡ over → kept_in entries id ≡ Some u → (kept_in (filter (stays now) entries) id ≡ None) ⊎ (kept_in (filter (stays now) entries) id ≡ kept_in entries id)
+      → end_kept (kept_in (filter (stays now) entries) id) ≡ cond over None u.expires
+  by_test u true over there (inl none) = ap end_kept none
+  by_test u true over there (inr same) = absurd (gone u over (same ∙ there))
+  by_test u false over there left =
+      ap end_kept (kept-filter (stays now) entries id u there (λ e named same. rw same (rw over refl)))
+
+  by_kept : (found : Option Upload) → kept_in entries id ≡ found → (kept_in (filter (stays now) entries) id ≡ None) ⊎ (kept_in (filter (stays now) entries) id ≡ kept_in entries id)
+      → end_kept (kept_in (filter (stays now) entries) id) ≡ cond (has_expired now (end_kept (kept_in entries id))) None (end_kept (kept_in entries id))
+  by_kept None there (inl none) = rw there (ap end_kept none)
+  by_kept None there (inr same) = rw there (ap end_kept (same ∙ there))
+  by_kept (Some u) there left = rw there (by_test u (has_expired now u.expires) refl there left)
+
+-- so the ends of a book after it are those that are later
+pub ends-swept : (b : PlainBook) (now : ℕ) → IsLawful b → (name : Name) → ends_after now (ends_of b) name ≡ ends_of (book_after_sweep b now) name
+ends-swept b now lawful name =
+    let part : tenant_book (book_after_sweep b now) name.tenant ≡ part_after_sweep now (tenant_book b name.tenant) = get_or-map (part_after_sweep now) b.tenants name.tenant (opening_part 0) in
+    sym (ap (λ (part : TenantBook). end_in part name.id) part ∙ end-swept now name.id (tenant_book b name.tenant).uploads ascending)
+  where
+    ascending : IsStrictlyIncreasing (ids_of (tenant_book b name.tenant).uploads)
+    ascending = elim (cases_lt name.tenant (length b.tenants)) [
+      | inl within ↦ (lawful.tenants name.tenant (opening_part 0) within).ascending
+      | inr past ↦ subst (λ (part : TenantBook). IsStrictlyIncreasing (ids_of part.uploads)) (sym (get_or_past b.tenants name.tenant (opening_part 0) past)) (λ k within. absurd (omega arith))
+    ]

@@ -1,13 +1,17 @@
 -- The uploads that expire after the end of one changes.
-use Rattle.std.proofs.Common.{◌≡◌, ◌≢◌, ◌⊎◌, ℕ, zero, suc, true, false, List, ◌∷◌, Option, Some, None, refl, inl, inr, sym, ap, ◌∙◌, subst, arith}
+use Rattle.std.proofs.Common.{◌≡◌, ◌≢◌, ◌⊎◌, ℕ, zero, suc, ◌+◌, ◌-◌, ◌<◌, Bool, true, false, cond, List, ◌∷◌, length, get_or, drop, Option, Some, None, refl, inl, inr, sym, ap, ◌∙◌, subst, arith}
+use Rattle.std.specs.Prelude.{nat_le}
 use Rattle.std.specs.List.{Contains}
-use Rattle.std.specs.List.Sorted.{IsPermutation}
+use Rattle.std.specs.List.Sorted.{IsPartitionPoint, IsPermutation}
+use Rattle.std.proofs.lemmas.Bool.{cases_lt, false≢true}
 use Rattle.std.proofs.lemmas.Bool.Decides.{eqb_tells}
+use Rattle.std.proofs.lemmas.List.{get_or-drop, length-drop}
 use Rattle.std.proofs.lemmas.List.Sorted.{Contains-permutation, IsPermutation-sym}
 use Rattle.std.proofs.lemmas.Option.{none-some, same_Some}
 use Rattle.upload_book.specs.declared.expiry_list.Expiring.{Expiring}
 use Rattle.upload_book.specs.declared.head_row.Name.{Name}
-use Rattle.upload_book.specs.ExpiryList.{is_same_name, with_end, AreExpiring, Ends, IsAscending, KnowsEnd}
+use Rattle.upload_book.specs.Expiry.{has_expired}
+use Rattle.upload_book.specs.ExpiryList.{ends_after, is_same_name, with_end, AreExpiring, Ends, IsAscending, KnowsEnd}
 
 module _ {X : Type 0} where
   -- the first of a list is in it,
@@ -146,3 +150,35 @@ KnowsEnd-left old new name at known moved gone = λ other. (
       absurd (gone (subst (λ at. Contains new (record { at = at; name = name })) (sym same) there)),
   λ told. absurd (none-some other told),
 )
+
+-- an end that is later than a moment is one, and has not come then
+later-end : (now : ℕ) (end : Option ℕ) (at : ℕ) → cond (has_expired now end) None end ≡ Some at → (end ≡ Some at) × (nat_le at now ≡ false)
+later-end now None at told = absurd (none-some at told)
+later-end now (Some end) at told = by_test (nat_le end now) refl told
+  where
+    by_test : (past : Bool) → nat_le end now ≡ past → cond past None (Some end) ≡ Some at → (Some end ≡ Some at) × (nat_le at now ≡ false)
+    by_test true is told = absurd (none-some at told)
+    by_test false is told = (told, ap (λ e. nat_le e now) (sym (same_Some end at told)) ∙ is)
+
+-- those that have ends later than a moment are left where the others leave the front
+pub AreExpiring-after : (ends : Ends) (now count : ℕ) (list : List Expiring) → IsPartitionPoint (λ x. nat_le x.at now ≡ true) (λ x. nat_le x.at now ≡ false) list count → AreExpiring ends list → AreExpiring (ends_after now ends) (drop count list)
+AreExpiring-after ends now count list point is = record {
+  ascending = λ i j d below within.
+      let long = length-drop count list in
+      rw (get_or-drop count list i d, get_or-drop count list j d) (is.ascending (count + i) (count + j) d (omega arith) (omega (arith, long, within)));
+  each = λ x. (
+    λ there.
+        let inside : count + there.0 < length list = omega (arith, there.1, length-drop count list) in
+        let here : get_or list (count + there.0) x ≡ x = sym (get_or-drop count list there.0 x) ∙ there.2 in
+        let told : ends x.name ≡ Some x.at = (is.each x).0 (count + there.0, inside, here) in
+        let later : nat_le x.at now ≡ false = ap (λ (x : Expiring). nat_le x.at now) (sym here) ∙ point.1 (count + there.0) x (omega arith) inside in
+        rw told (rw later refl),
+    λ told.
+        let end = later-end now (ends x.name) x.at told in
+        let there = (is.each x).1 end.0 in
+        elim (cases_lt there.0 count) [
+          | inl past ↦ absurd (false≢true (sym end.1 ∙ ap (λ (x : Expiring). nat_le x.at now) (sym there.2) ∙ point.0 there.0 x (omega arith) past))
+          | inr left ↦ (there.0 - count, omega (arith, there.1, length-drop count list), get_or-drop count list (there.0 - count) x ∙ ap (λ k. get_or list k x) (omega arith) ∙ there.2)
+        ],
+  );
+}

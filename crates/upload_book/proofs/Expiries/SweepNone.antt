@@ -59,8 +59,8 @@ nothing-less m f (part ∷ parts) stay =
     sum_by-cons (λ part. m part - m (f part)) part parts ∙ omega (arith, rest, ap m (All-head (λ part. f part ≡ part) part parts stay))
 
 -- so a sweep ends nothing
-pub EndsNone-fresh : (b : PlainBook) (list : List Expiring) (now : ℕ) → IsLawful b → AreExpiries b list → IfSome (slice_get list 0) (IsFresh now) → EndsNone b now
-EndsNone-fresh b list now lawful are first =
+pub EndsNone-first : (b : PlainBook) (list : List Expiring) (now : ℕ) → IsLawful b → AreExpiries b list → IfSome (slice_get list 0) (IsFresh now) → EndsNone b now
+EndsNone-first b list now lawful are first =
     let fresh = fresh-first now list are.ascending first in
     let stay : All (λ part. part_after_sweep now part ≡ part) b.tenants =
     All-from_get_or (λ part. part_after_sweep now part ≡ part) b.tenants (opening_part 0) (λ t within. sweep-stays b list now t lawful are fresh within) in

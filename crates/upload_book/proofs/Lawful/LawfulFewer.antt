@@ -67,19 +67,33 @@ IsLawful-without b t id lawful within =
     let sound : IsTenantOf b.settings.numbers (tenant_book b t) = lawful.tenants t _ within in
     IsLawful-with_tenant_book-less b t (without part id) lawful within refl (IsTenantOf-terminate b.settings.numbers part id sound) (charge-terminate b.settings.numbers part id)
 
+-- what parts have after a step that leaves each no more, and what it takes from them, is what they had
+pub total-fewer : (m : TenantBook → ℕ) (after : TenantBook → TenantBook) → ((part : TenantBook) → m (after part) ≤ m part) → (parts : List TenantBook)
+    → sum_by m (map {A = TenantBook} {B = TenantBook} after parts) + sum_by (λ part. m part - m (after part)) parts ≡ sum_by m parts
+total-fewer m after fewer [] = refl
+total-fewer m after fewer (part ∷ parts) =
+    omega (
+      arith,
+      sum_by-cons m (after part) (map {A = TenantBook} {B = TenantBook} after parts),
+      sum_by-cons (λ part. m part - m (after part)) part parts,
+      sum_by-cons m part parts,
+      fewer part,
+      total-fewer m after fewer parts,
+    )
+
 -- what all parts pay after a sweep, and what it gives back, is what they paid
 pub swept-total : (n : Numbers) (now : ℕ) (parts : List TenantBook)
     → sum_by (charge_in n) (map {A = TenantBook} {B = TenantBook} (part_after_sweep now) parts) + sum_by (λ part. given_back n part (part_after_sweep now part)) parts ≡ sum_by (charge_in n) parts
-swept-total n now [] = refl
-swept-total n now (part ∷ parts) =
-    total _ _ _ _ _ _ _ _ (sum_by-cons (charge_in n) (part_after_sweep now part) (map {A = TenantBook} {B = TenantBook} (part_after_sweep now) parts))
-    (sum_by-cons (λ part. given_back n part (part_after_sweep now part)) part parts)
-    (sum_by-cons (charge_in n) part parts)
-    (charge-sweep n part now)
-    (swept-total n now parts)
-  where
-    total : (after before later back all rest_later rest_back rest : ℕ) → later ≡ after + rest_later → back ≡ (before - after) + rest_back → all ≡ before + rest → after ≤ before → rest_later + rest_back ≡ rest → later + back ≡ all
-    total after before later back all rest_later rest_back rest e f g less same = omega arith
+swept-total n now parts = total-fewer (charge_in n) (part_after_sweep now) (λ part. charge-sweep n part now) parts
+
+-- how many uploads a part has
+abbrev pub count_of : TenantBook → ℕ
+count_of part = length part.uploads
+
+-- a sweep leaves no more of them
+pub length-sweep : (now : ℕ) (part : TenantBook) → count_of (part_after_sweep now part) ≤ count_of part
+length-sweep now part =
+    omega (arith, length-filter (λ (e : Entry Upload). not (has_expired now e.kept.expires)) part.uploads, count_by-le-length (λ (e : Entry Upload). not (has_expired now e.kept.expires)) part.uploads)
 
 -- the quotas stay in a sweep
 quotas-swept : (now : ℕ) (parts : List TenantBook) → map {A = TenantBook} {B = ℕ} (λ part. part.quota) (map {A = TenantBook} {B = TenantBook} (part_after_sweep now) parts) ≡ map {A = TenantBook} {B = ℕ} (λ part. part.quota) parts

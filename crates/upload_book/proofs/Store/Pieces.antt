@@ -128,6 +128,17 @@ Contains-without old i x c =
     let found = Contains-flat_map kept_pieces (remove old.uploads i) x c in
     flat_map-contains kept_pieces old.uploads found.0 x (Contains-remove old.uploads i found.0 found.1) found.2
 
+-- What stays of a stored part where pieces leave it: no other piece is left, and each block stands in what is left and in these
+-- as often as before.
+pub record Leaves (old s : StoredTenant) (gone : List Piece) : Type 0 where
+  pub next : s.next ≡ old.next
+  pub stays : (x : Piece) → Contains (pieces_of s) x → Contains (pieces_of old) x
+  pub places : (b : ℕ) → places_on b s + places_of b (placed_in gone) ≡ places_on b old
+
+-- without an entry its pieces leave
+pub Leaves-without : (old : StoredTenant) (i : ℕ) (e : Entry StoredUpload) → IsEntry old i e → Leaves old (without old i) e.kept.pieces
+Leaves-without old i e is = record { next = refl; stays = Contains-without old i; places = λ b. places-without b old i e is }
+
 -- a piece of the stored part with another entry is that entry's, or was left without the place
 pub Contains-with_entry : (old : StoredTenant) (i : ℕ) (new : Entry StoredUpload) (x : Piece) → i < length old.uploads → Contains (pieces_of (with_entry old i new)) x → Contains new.kept.pieces x ⊎ Contains (pieces_of (without old i)) x
 Contains-with_entry old i new x l c =

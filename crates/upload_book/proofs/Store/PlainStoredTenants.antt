@@ -14,7 +14,7 @@ use Rattle.upload_book.specs.Stored.{StoredTenant, StoredUpload, upload_of, entr
 use Rattle.upload_book.specs.TenantBook.{Entry, TenantBook, with_new}
 use Rattle.upload_book.specs.Upload.{Upload, content_of as upload_content_of}
 use Rattle.upload_book.proofs.Charge.InUse.{places-within, Contains-first, Contains-later}
-use Rattle.upload_book.proofs.Store.Pieces.{IsEntry, with_entry, without, kept_pieces, places_at, places-without, places-entries, Contains-remove_at}
+use Rattle.upload_book.proofs.Store.Pieces.{IsEntry, Leaves, with_entry, without, kept_pieces, places_at, places-without, places-entries, Contains-remove_at}
 use Rattle.upload_book.proofs.Store.PutLemmas.{own_piece, own-places}
 use Rattle.upload_book.proofs.Store.StoredTenants.{IsStoredTenant, IsStoredOn, IsStoredOn-stored_tenant, places_on-held, stored_tenants-apart}
 
@@ -126,17 +126,17 @@ put-keeps_elsewhere p stored_tenants t old i e x bytes q y kept stored_tenant is
     let none : places_on b old ≡ 0 = stored_tenants-apart p stored_tenants t k old other kept stored_tenant there differs b some in
     f.others b (omega (arith, places-without b old i e is, own-places b e e.id x own, places_on-held p other (IsStoredOn-stored_tenant p stored_tenants k other kept there) b))
 
--- blocks are given back: those of the tenant's other entries keep their bytes,
-pub gone-keeps : (p : Blocks) (old : StoredTenant) (i : ℕ) (e : Entry StoredUpload) (freed : ℕ) (q : Blocks) → IsStoredOn p old → IsEntry old i e → GivesBack p (placed_in e.kept.pieces) freed q → KeepBytes p q (λ b. places_on b (without old i))
-gone-keeps p old i e freed q on is g b some =
-    g.bytes b (omega (arith, places-without b old i e is, g.counts b, places_on-held p old on b))
+-- blocks are given back: those of the tenant's other pieces keep their bytes,
+pub gone-keeps : (p : Blocks) (old s : StoredTenant) (gone : List Piece) (freed : ℕ) (q : Blocks) → IsStoredOn p old → Leaves old s gone → GivesBack p (placed_in gone) freed q → KeepBytes p q (λ b. places_on b s)
+gone-keeps p old s gone freed q on is g b some =
+    g.bytes b (omega (arith, is.places b, g.counts b, places_on-held p old on b))
 
 -- and those of the other tenants
-pub gone-keeps_elsewhere : (p : Blocks) (stored_tenants : List StoredTenant) (t : ℕ) (old : StoredTenant) (i : ℕ) (e : Entry StoredUpload) (freed : ℕ) (q : Blocks) → HoldsPieces p stored_tenants → IsStoredTenant stored_tenants t old → IsEntry old i e → GivesBack p (placed_in e.kept.pieces) freed q
+pub gone-keeps_elsewhere : (p : Blocks) (stored_tenants : List StoredTenant) (t : ℕ) (old s : StoredTenant) (gone : List Piece) (freed : ℕ) (q : Blocks) → HoldsPieces p stored_tenants → IsStoredTenant stored_tenants t old → Leaves old s gone → GivesBack p (placed_in gone) freed q
     → (k : ℕ) (other : StoredTenant) → IsStoredTenant stored_tenants k other → k ≢ t → KeepBytes p q (λ b. places_on b other)
-gone-keeps_elsewhere p stored_tenants t old i e freed q kept stored_tenant is g k other there differs b some =
+gone-keeps_elsewhere p stored_tenants t old s gone freed q kept stored_tenant is g k other there differs b some =
     let none : places_on b old ≡ 0 = stored_tenants-apart p stored_tenants t k old other kept stored_tenant there differs b some in
-    g.bytes b (omega (arith, places-without b old i e is, g.counts b, places_on-held p other (IsStoredOn-stored_tenant p stored_tenants k other kept there) b))
+    g.bytes b (omega (arith, is.places b, g.counts b, places_on-held p other (IsStoredOn-stored_tenant p stored_tenants k other kept there) b))
 
 -- the segments of an upload with one piece
 pub segments-own : (p : Blocks) (u : StoredUpload) (id : ℕ) (x : Chain) → u.pieces ≡ own_piece id x ∷ [] → (upload_of p u).segments ≡ content_of p x ∷ []

@@ -1,7 +1,7 @@
 use Rattle.std.proofs.Common.{◌≡◌, ◌<◌, Some, None, slice_get, arith, rules}
 use Rattle.std.proofs.lemmas.Bool.Decides.{nat_tests}
 use Rattle.upload_book.specs.Book.{plain_of}
-use Rattle.upload_book.proofs.Expiries.ExpiredEnds.{EndsNone-first}
+use Rattle.upload_book.proofs.Expiries.SweepNone.{EndsNone-first}
 use Rattle.kept_book.proofs.kept.is_fresh.Goals as goal
 
 pub returns-in-Some : goal.returns-in-Some

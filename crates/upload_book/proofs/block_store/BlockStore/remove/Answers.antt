@@ -1,20 +1,27 @@
-use Rattle.std.proofs.Common.{◌-◌, refl, arith}
+use Rattle.std.proofs.Common.{◌-◌, List, ap, arith, ◌∙◌}
+use Rattle.std.specs.Prelude.{set}
+use Rattle.upload_book.specs.BlockStore.{plain_in}
 use Rattle.upload_book.specs.declared.stored_tenant.StoredTenant.{StoredTenant as KeptTenant}
-use Rattle.upload_book.proofs.Store.StoreLemmas.{IsPart-read, IsEntry-read, room-part}
-use Rattle.upload_book.proofs.Store.StoreGone.{GivesUp, IsGivenUp, given-held, given-within, IsKept-given, plain-given, charge-given}
+use Rattle.upload_book.specs.inside.Kept.{stored_tenant_of, store_of}
+use Rattle.upload_book.specs.Stored.{StoredTenant, StoredUpload}
+use Rattle.upload_book.specs.TenantBook.{Entry}
+use Rattle.upload_book.proofs.Store.Pieces.{IsEntry, Leaves-without, without}
+use Rattle.upload_book.proofs.Store.StoreLemmas.{IsPart, IsPart-read, IsEntry-read, room-part}
+use Rattle.upload_book.proofs.Store.StoreGone.{GivesUp, GivesUp-upload, IsGivenUp, IsGivenUp-upload, given-held, given-within, IsKept-given, plain-given, plain-upload, charge-given}
 use Rattle.upload_book.proofs.block_store.BlockStore.remove.Goals as goal
 
 pub give_back-freed-requires : goal.give_back-freed-requires
 give_back-freed-requires c =
     let part = IsPart-read c.self.inside c.args.self.now c.args.tenant c.index_mut-stored_tenant.result.now c.self.view_is c.requires.tenant c.index_mut-stored_tenant.ensures.value in
     let entry = IsEntry-read c.self.inside c.args.self.now c.args.tenant c.args.place c.index_mut-stored_tenant.result.now c.remove-upload.result c.self.view_is part c.requires.place c.remove-upload.ensures.value in
-    given-held c.self.inside c.args.tenant c.args.place c.index_mut-stored_tenant.result.now c.remove-upload.result c.self.invariant part entry
+    given-held c.self.inside c.args.tenant c.index_mut-stored_tenant.result.now (without (stored_tenant_of c.index_mut-stored_tenant.result.now) c.args.place) c.remove-upload.result.kept.pieces c.self.invariant part (Leaves-without (stored_tenant_of c.index_mut-stored_tenant.result.now) c.args.place c.remove-upload.result entry)
 
 pub overflow_sub-stored_tenant : goal.overflow_sub-stored_tenant
 overflow_sub-stored_tenant c =
-    let part = IsPart-read c.self.inside c.args.self.now c.args.tenant c.index_mut-stored_tenant.result.now c.self.view_is c.requires.tenant c.index_mut-stored_tenant.ensures.value in
-    let entry = IsEntry-read c.self.inside c.args.self.now c.args.tenant c.args.place c.index_mut-stored_tenant.result.now c.remove-upload.result c.self.view_is part c.requires.place c.remove-upload.ensures.value in
-    given-within c.self.inside c.args.tenant c.args.place c.index_mut-stored_tenant.result.now c.remove-upload.result c.give_back-freed.result.0 c.give_back-freed.new.pool c.self.invariant (record { part = part; entry = entry; gives = c.give_back-freed.ensures })
+    let old = c.index_mut-stored_tenant.result.now in
+    let part = IsPart-read c.self.inside c.args.self.now c.args.tenant old c.self.view_is c.requires.tenant c.index_mut-stored_tenant.ensures.value in
+    let entry = IsEntry-read c.self.inside c.args.self.now c.args.tenant c.args.place old c.remove-upload.result c.self.view_is part c.requires.place c.remove-upload.ensures.value in
+    given-within c.self.inside c.args.tenant old (without (stored_tenant_of old) c.args.place) c.remove-upload.result.kept.pieces c.give_back-freed.result.0 c.give_back-freed.new.pool c.self.invariant (GivesUp-upload c.self.inside c.args.tenant c.args.place old c.remove-upload.result c.give_back-freed.result.0 c.give_back-freed.new.pool part entry c.give_back-freed.ensures)
 
 -- the part without the upload
 after : goal.After-self-1 → KeptTenant
@@ -24,41 +31,47 @@ after c = record (c.index_mut-stored_tenant.result.now) {
   spare = c.push_reserved.new.self;
 }
 
+left : goal.After-self-1 → StoredTenant
+left c = without (stored_tenant_of c.index_mut-stored_tenant.result.now) c.args.place
+
+part : (c : goal.After-self-1) → IsPart c.self.inside c.args.tenant c.index_mut-stored_tenant.result.now
+part c = IsPart-read c.self.inside c.args.self.now c.args.tenant c.index_mut-stored_tenant.result.now c.self.view_is c.requires.tenant c.index_mut-stored_tenant.ensures.value
+
+entry : (c : goal.After-self-1) → IsEntry (stored_tenant_of c.index_mut-stored_tenant.result.now) c.args.place c.remove-upload.result
+entry c = IsEntry-read c.self.inside c.args.self.now c.args.tenant c.args.place c.index_mut-stored_tenant.result.now c.remove-upload.result c.self.view_is (part c) c.requires.place c.remove-upload.ensures.value
+
 -- the upload's blocks are given back
-gave : (c : goal.After-self-1) → GivesUp c.self.inside c.args.tenant c.args.place c.index_mut-stored_tenant.result.now c.remove-upload.result c.give_back-freed.result.0 c.give_back-freed.new.pool
-gave c =
-    let part = IsPart-read c.self.inside c.args.self.now c.args.tenant c.index_mut-stored_tenant.result.now c.self.view_is c.requires.tenant c.index_mut-stored_tenant.ensures.value in
-    let entry = IsEntry-read c.self.inside c.args.self.now c.args.tenant c.args.place c.index_mut-stored_tenant.result.now c.remove-upload.result c.self.view_is part c.requires.place c.remove-upload.ensures.value in
-    record { part = part; entry = entry; gives = c.give_back-freed.ensures }
+gave : (c : goal.After-self-1) → GivesUp c.self.inside c.args.tenant c.index_mut-stored_tenant.result.now (left c) c.remove-upload.result.kept.pieces c.give_back-freed.result.0 c.give_back-freed.new.pool
+unfolding left
+gave c = GivesUp-upload c.self.inside c.args.tenant c.args.place c.index_mut-stored_tenant.result.now c.remove-upload.result c.give_back-freed.result.0 c.give_back-freed.new.pool (part c) (entry c) c.give_back-freed.ensures
 
 -- the part lost it
-given : (c : goal.After-self-1) → IsGivenUp c.self.inside c.args.place c.index_mut-stored_tenant.result.now (after c) c.give_back-freed.result.0
-unfolding after
-given c = record {
-  quota = refl;
-  next = refl;
-  charge = omega (arith, given-within c.self.inside c.args.tenant c.args.place c.index_mut-stored_tenant.result.now c.remove-upload.result c.give_back-freed.result.0 c.give_back-freed.new.pool c.self.invariant (gave c));
-  uploads = c.remove-upload.ensures.items;
-  room =
-      let room = room-part c.self.inside c.args.tenant c.index_mut-stored_tenant.result.now c.self.invariant (gave c).part in
-      record {
-        uploads = omega (arith, room.uploads, c.remove-upload.ensures.capacity);
-        spare = omega (arith, room.spare, c.push_reserved.ensures.capacity);
-        boxes = omega (arith, room.boxes, c.remove-upload.ensures.len, c.push_reserved.ensures.len);
-      };
-}
+given : (c : goal.After-self-1) → IsGivenUp c.self.inside c.index_mut-stored_tenant.result.now (after c) (left c) c.give_back-freed.result.0
+unfolding after left
+given c =
+    let old = c.index_mut-stored_tenant.result.now in
+    let with_uploads : List (Entry StoredUpload) → StoredTenant = λ uploads. record (stored_tenant_of old) { uploads = uploads } in
+    let room = room-part c.self.inside c.args.tenant old c.self.invariant (part c) in
+    IsGivenUp-upload c.self.inside c.args.tenant c.args.place old (after c) c.remove-upload.result c.give_back-freed.result.0 c.self.invariant (part c) (entry c) (ap with_uploads c.remove-upload.ensures.items)
+    (omega (arith, given-within c.self.inside c.args.tenant old (left c) c.remove-upload.result.kept.pieces c.give_back-freed.result.0 c.give_back-freed.new.pool c.self.invariant (gave c)))
+    (record {
+      uploads = omega (arith, room.uploads, c.remove-upload.ensures.capacity);
+      spare = omega (arith, room.spare, c.push_reserved.ensures.capacity);
+      boxes = omega (arith, room.boxes, c.remove-upload.ensures.len, c.push_reserved.ensures.len);
+    })
 
 pub invariant_of-self : goal.invariant_of-self
 unfolding after
 invariant_of-self c =
-    IsKept-given c.self.inside c.args.tenant c.args.place c.index_mut-stored_tenant.result.now (after c) c.remove-upload.result c.give_back-freed.result.0 c.give_back-freed.new.pool c.self.invariant (gave c) (given c)
+    IsKept-given c.self.inside c.args.tenant c.index_mut-stored_tenant.result.now (left c) c.remove-upload.result.kept.pieces c.give_back-freed.result.0 c.give_back-freed.new.pool c.self.invariant (gave c) (after c) (given c)
 
 pub returns-clause-plain : goal.returns-clause-plain
-unfolding after
+unfolding after left
 returns-clause-plain c =
-    rw (← c.self.view_is) (plain-given c.self.inside c.args.tenant c.args.place c.index_mut-stored_tenant.result.now (after c) c.remove-upload.result c.give_back-freed.result.0 c.give_back-freed.new.pool c.self.invariant (gave c) (given c))
+    let is = plain-given c.self.inside c.args.tenant c.index_mut-stored_tenant.result.now (left c) c.remove-upload.result.kept.pieces c.give_back-freed.result.0 c.give_back-freed.new.pool c.self.invariant (gave c) (after c) (given c) in
+    rw (← c.self.view_is) (is ∙ ap (set (plain_in (store_of c.self.inside)) c.args.tenant) (plain-upload c.self.inside c.args.tenant c.args.place c.index_mut-stored_tenant.result.now (part c)))
 
 pub returns-clause-charge : goal.returns-clause-charge
 unfolding after
 returns-clause-charge c =
-    rw (← c.self.view_is) (charge-given c.self.inside c.args.tenant c.args.place c.index_mut-stored_tenant.result.now (after c) c.remove-upload.result c.give_back-freed.result.0 c.give_back-freed.new.pool c.self.invariant (gave c) (given c))
+    rw (← c.self.view_is) (charge-given c.self.inside c.args.tenant c.index_mut-stored_tenant.result.now (left c) c.remove-upload.result.kept.pieces c.give_back-freed.result.0 c.give_back-freed.new.pool c.self.invariant (gave c) (after c) (given c))
