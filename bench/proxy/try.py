@@ -97,6 +97,7 @@ def pages(nginx, recorder):
     reply = ask(nginx.connect, message('OPTIONS', '/files/acme', OTHER_ORIGIN))
     told = {name for name in map(str.lower, TUS_FIELDS) if name in reply.fields}
     check('another OPTIONS goes to the server', reply.status == 204 and {'tus-version', 'tus-extension'} <= told)
+    check('a tenant may be named with a slash behind it', re.fullmatch(r'/files/acme/\d+', created(nginx.connect, 1, path='/files/acme/')) is not None)
 
 
 def chunked(connect, pause):
@@ -174,15 +175,18 @@ def mounts(nginx):
     check('mount: /files/ stays as it is', created(nginx.connect, 5, name).startswith('/files/acme/'))
     check('mount: an upload is sent', ask(nginx.connect, patch(path, 0, b'hello', name)).status == 204)
     for tree in ('/files', '/uploads'):
-        for count in (1, 2, 3, 4):
+        for count in (1, 4, 32):
             parts = [created(nginx.connect, 1, name, 'Upload-Concat: partial', path=f'{tree}/acme') for _ in range(count)]
-            for part, text in zip(parts, b'abcd'):
-                ask(nginx.connect, patch(part, 0, bytes([text]), name))
+            text = bytes(range(65, 65 + count))
+            for part, byte in zip(parts, text):
+                ask(nginx.connect, patch(part, 0, bytes([byte]), name))
             joined = []
             for named in (parts, [f'https://127.0.0.1:{nginx.port}{part}' for part in parts]):
                 reply = ask(nginx.connect, message('POST', f'{tree}/acme', name, 'Upload-Concat: final;' + ' '.join(named)))
                 joined.append(ask(nginx.connect, message('GET', reply.fields.get('location', '/files/acme/0'), name)).body)
-            check(f'{count} parts in {tree} are joined, named by their paths and by their addresses', joined == [b'abcd'[:count]] * 2)
+            check(f'{count} parts in {tree} are joined, named by their paths and by their addresses', joined == [text] * 2)
+            for part in parts:
+                ask(nginx.connect, message('DELETE', part, name))
 
 
 def limits(nginx, server_alone):
