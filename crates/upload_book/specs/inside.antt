@@ -10,3 +10,4 @@ pub mod Notes
 pub mod PieceRefusal
 pub mod Pieces
 pub mod Places
+pub mod Texts

@@ -8,12 +8,12 @@ use crate::head_row::Kind;
 use crate::moment::Moment;
 use crate::refusal::Refusal;
 use crate::stored_upload::StoredUpload;
-use crate::texts::Texts;
+use crate::texts::{Texts, boxes_from_start};
 use block_bodies::Body;
 use std::alloc::{AllocError, Global};
 
 /// A tenant's part of the book: its quota in blocks, the id that its next upload gets, the blocks that it
-/// pays, its uploads by ascending id, and the boxes for the texts of as many more as it may have.
+/// pays, its uploads by ascending id, and, where it may have at most 64, the boxes for the texts of as many more.
 #[derive(Drop)]
 pub(crate) struct StoredTenant {
     pub(crate) quota: u64,
@@ -28,7 +28,8 @@ impl StoredTenant {
     ghost use Rattle.upload_book.specs.inside.Kept.{stored_tenant_of, AreInOrder, HasUploadRoom, IsPartAt, IsVisibleAt};
 
     /// The part of a tenant that has no upload yet, with room for so many. All memory for them is taken here, but
-    /// for the lists of their blocks; the error is that there was too little.
+    /// for the lists of their blocks, and for their texts where they may be more than 64; the error is that there was too
+    /// little.
     pub(crate) fn new(alloc: Global, quota: u64, room: usize) -> Result<StoredTenant, AllocError>
         ensures stored_tenant { IfOk result (λ t. stored_tenant_of t ≡ opening_part quota) }
         ensures charge { IfOk result (λ t. t.charge ≡ 0) }
@@ -39,7 +40,7 @@ impl StoredTenant {
             next: 1,
             charge: 0,
             uploads: Vec::with_capacity(alloc, room)?,
-            spare: Texts::boxes(alloc, room)?,
+            spare: Texts::boxes(alloc, boxes_from_start(room))?,
         })
     }
 
