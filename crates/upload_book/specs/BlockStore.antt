@@ -1,5 +1,5 @@
 -- The uploads of all tenants, in blocks of one pool.
-use Rattle.std.specs.Prelude.{◌≡◌, ℕ, List, [], flat_map, map, length, get_or, Option, None, option_and_then, option_map}
+use Rattle.std.specs.Prelude.{◌≡◌, ℕ, true, List, [], flat_map, map, length, get_or, Option, None, option_and_then, option_map}
 use Rattle.block_pool.specs.Blocks.{Blocks, bytes_at, count_at, free_in}
 use Rattle.upload_book.specs.Concat.{parts_found, rows_of}
 use Rattle.upload_book.specs.declared.head_row.HeadRow.{HeadRow}
@@ -37,7 +37,7 @@ part_at s tenant = part_of s.pool (stored_tenant_at s tenant)
 abbrev pub no_upload : Entry StoredUpload
 no_upload = record {
   id = 0;
-  kept = record { kind = Plain; declared = None; pieces = []; metadata = []; concat = []; expires = None };
+  kept = record { kind = Plain; declared = None; pieces = []; metadata = []; concat = []; expires = None; boxed = true };
 }
 
 -- what is kept at a place of a tenant's part

@@ -22,8 +22,7 @@ use Rattle.upload_book.specs.Account.{blocks_added}
 use Rattle.upload_book.specs.Append.{append_answer, append_lacking, appended, part_after_append}
 use Rattle.upload_book.specs.Chunk.{count_all}
 use Rattle.upload_book.specs.Concat.{concat_answer, final_upload, part_after_concat, parts_found}
-use Rattle.upload_book.specs.Create.{create_answer, created_upload, new_kind, part_after_create}
-use Rattle.upload_book.specs.FirstChunk.{count_all_first}
+use Rattle.upload_book.specs.Create.{create_answer, created_upload, new_kind, part_after_create, TakesMemory}
 use Rattle.upload_book.specs.Heads.{accounts_of}
 use Rattle.upload_book.specs.Lawful.{IsConcatText, is_kept_metadata}
 use Rattle.upload_book.specs.PlainBook.{PlainBook, answer_of, book_after, tenant_book}
@@ -71,11 +70,11 @@ abbrev pub change_lacking : PlainBook → Change → ℕ → Result Outcome Refu
 change_lacking b (Append name chunk) now = appended_in (answer_of b name.tenant (append_lacking name.id now))
 change_lacking b _ now = Err (record { refusal = Memory; expires = None })
 
--- The change may lack memory: it is a PATCH or a creation whose bytes, with those that are to come behind them, take a
--- block, a concatenation, or an upload that is put back, and is not refused.
+-- The change may lack memory: it is a PATCH whose bytes, with those that are to come behind them, take a block, a creation
+-- that takes memory for its bytes or its texts, a concatenation, or an upload that is put back, and is not refused.
 abbrev pub MayLackFor : PlainBook → Change → ℕ → Type 0
 MayLackFor b (Create tenant new first) now =
-    IsOk (answer_of b tenant (create_answer tenant new first now b.charged)) × (0 < blocks_added b.settings.numbers 0 (count_all_first first))
+    IsOk (answer_of b tenant (create_answer tenant new first now b.charged)) × TakesMemory b.settings.numbers first
 MayLackFor b (Append name chunk) now =
     IsOk (answer_of b name.tenant (append_answer name.id chunk now b.charged)) × (0 < blocks_added b.settings.numbers chunk.offset (count_all chunk))
 MayLackFor b (Concat tenant new) now = IsOk (answer_of b tenant (concat_answer tenant new now))

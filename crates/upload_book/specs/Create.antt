@@ -1,5 +1,5 @@
 -- The step of a creation (tus 1.0.0, Creation, Creation With Upload, Expiration, Checksum and Concatenation).
-use Rattle.std.specs.Prelude.{ℕ, Bool, not, ◌||◌, List, [], ◌∷◌, length, nat_lt, nat_le, Option, Some, None, unwrap_or, Result, if◌then◌else◌}
+use Rattle.std.specs.Prelude.{ℕ, ◌<◌, ◌⊎◌, Bool, not, ◌||◌, List, [], ◌∷◌, length, nat_lt, nat_le, Option, Some, None, unwrap_or, Result, if◌then◌else◌}
 use Rattle.upload_book.specs.Account.{account_in, account_with, blocks_added}
 use Rattle.upload_book.specs.Append.{is_too_long}
 use Rattle.upload_book.specs.Checksum.{is_mismatch, is_of_other_algorithm}
@@ -81,3 +81,12 @@ create_empty_answer tenant new now n part = create_answer tenant new no_chunk no
 -- and the part after it
 abbrev pub part_after_create_empty : NewUpload → ℕ → Numbers → TenantBook → TenantBook
 part_after_create_empty new now n part = part_after_create new no_chunk now 0 n part
+
+-- Memory is taken for the texts of a new upload where the settings allow a tenant more than 64 uploads. For 64 or fewer it
+-- is there from the start.
+abbrev pub TakesTexts : Numbers → Type 0
+TakesTexts n = 64 < n.uploads
+
+-- A creation takes memory for its texts, or for its bytes: these, with those that are to come behind them, take a block.
+abbrev pub TakesMemory : Numbers → FirstChunk → Type 0
+TakesMemory n first = (0 < blocks_added n 0 (count_all_first first)) ⊎ TakesTexts n

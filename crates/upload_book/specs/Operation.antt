@@ -7,8 +7,8 @@ use Rattle.upload_book.specs.Append.{append_answer, part_after_append}
 use Rattle.upload_book.specs.Chunk.{Chunk, count_all}
 use Rattle.upload_book.specs.Concat.{concat_answer, part_after_concat}
 use Rattle.upload_book.specs.Content.{content_answer}
-use Rattle.upload_book.specs.Create.{create_answer, part_after_create, part_after_create_empty}
-use Rattle.upload_book.specs.FirstChunk.{FirstChunk, count_all_first}
+use Rattle.upload_book.specs.Create.{create_answer, create_empty_answer, part_after_create, part_after_create_empty, TakesMemory, TakesTexts}
+use Rattle.upload_book.specs.FirstChunk.{FirstChunk}
 use Rattle.upload_book.specs.NewFinal.{NewFinal}
 use Rattle.upload_book.specs.NewUpload.{NewUpload}
 use Rattle.upload_book.specs.Terminate.{part_after_terminate}
@@ -35,13 +35,13 @@ book_after_operation b (Content name) now = b
 book_after_operation b (Append name chunk) now = book_after b name.tenant (part_after_append name.id chunk now b.charged)
 book_after_operation b (Terminate name) now = book_after b name.tenant (part_after_terminate name.id now)
 
--- The operation may lack memory: it is a GET of an upload with bytes, a PATCH or a creation whose bytes, with those that
--- are to come behind them, take a block, or a concatenation, and is not refused. Where it does, its answer is the refusal
--- Memory, and the book stays as it was.
+-- The operation may lack memory: it is a GET of an upload with bytes, a PATCH whose bytes, with those that are to come
+-- behind them, take a block, a creation that takes memory for its bytes or its texts, or a concatenation, and is not
+-- refused. Where it does, its answer is the refusal Memory, and the book stays as it was.
 abbrev pub MayLackMemory : PlainBook → Operation → ℕ → Type 0
-MayLackMemory b (Create tenant new) now = ⊥
+MayLackMemory b (Create tenant new) now = IsOk (answer_of b tenant (create_empty_answer tenant new now)) × TakesTexts b.settings.numbers
 MayLackMemory b (CreateWith tenant new first) now =
-    IsOk (answer_of b tenant (create_answer tenant new first now b.charged)) × (0 < blocks_added b.settings.numbers 0 (count_all_first first))
+    IsOk (answer_of b tenant (create_answer tenant new first now b.charged)) × TakesMemory b.settings.numbers first
 MayLackMemory b (Concat tenant new) now = IsOk (answer_of b tenant (concat_answer tenant new now))
 MayLackMemory b (Look name) now = ⊥
 MayLackMemory b (Content name) now = IsOkAnd (answer_of b name.tenant (content_answer name.id now)) (λ bytes. bytes ≢ [])

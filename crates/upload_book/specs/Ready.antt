@@ -28,6 +28,7 @@ use Rattle.upload_book.specs.Lawful.{IsConcatText, is_kept_metadata}
 use Rattle.upload_book.specs.PlainBook.{tenant_book}
 use Rattle.upload_book.specs.snapshot.Restore.{IsRestorable, piece_refusal}
 use Rattle.upload_book.specs.declared.restored.Restored.{Restored}
+use Rattle.upload_book.specs.inside.Texts.{IsTextsFor}
 use Rattle.upload_book.specs.declared.restored.Restored.TheVariants as piece
 use Rattle.upload_book.specs.inside.FinalBack.{AreRoomsFor}
 use Rattle.upload_book.specs.Progress.{progress_in}
@@ -55,7 +56,8 @@ pub record IsReadyForEnd (b : StoredBook) (r : ReadyEnd) : Type 0 where
   pub seen : IsVisibleIn b.store r.name.tenant r.name.id r.now r.place
 
 -- The book is ready for a creation: it refuses nothing, the texts are of their forms, the upload will expire then, and
--- there is a body with room for the first bytes, and for all that are to come behind them.
+-- there is a body with room for the first bytes, and for all that are to come behind them. There is memory for the texts,
+-- as for those of each upload to come below.
 pub record IsReadyForUpload (b : StoredBook) (r : ReadyUpload) : Type 0 where
   pub there : r.tenant < length b.settings.tenants
   pub metadata : IsTrue (is_kept_metadata r.new.metadata)
@@ -64,6 +66,7 @@ pub record IsReadyForUpload (b : StoredBook) (r : ReadyUpload) : Type 0 where
   pub expires : r.expires ≡ first_end b.settings.numbers r.new (length r.first.bytes) r.now
   pub empty : r.body ≡ record no_chain { room = r.body.room }
   pub room : HasRoom b.store.pool r.body (count_all_first r.first)
+  pub texts : IsTextsFor b.settings.numbers.uploads r.texts r.new.metadata r.new.concat
 
 -- the pieces of the parts of a concatenation were listed, and there is an empty list with room for them
 pub record IsListed (s : BlockStore) (tenant : ℕ) (r : ReadyFinal) : Type 0 where
@@ -83,6 +86,7 @@ pub record IsReadyForFinal (b : StoredBook) (r : ReadyFinal) : Type 0 where
   pub accepted : concat_refusal b.settings.numbers (tenant_book (plain_of b) r.tenant) r.new r.now ≡ None
   pub len : r.len ≡ joined_len (rows_at b.store r.tenant r.new.parts r.now)
   pub listed : IsListed b.store r.tenant r
+  pub texts : IsTextsFor b.settings.numbers.uploads r.texts r.new.metadata r.new.concat
 
 -- the book is ready to put back a tenant's next id: it does not refuse it
 pub record IsReadyForNext (b : StoredBook) (r : ReadyNext) : Type 0 where
@@ -97,6 +101,7 @@ pub record IsReadyForOwn (b : StoredBook) (r : ReadyOwn) : Type 0 where
   pub accepted : piece_refusal (plain_of b) (piece.Upload r.tenant r.upload) ≡ None
   pub empty : r.body ≡ record no_chain { room = r.body.room }
   pub room : (bytes : List ℕ) → r.upload.segments ≡ record { origin = r.upload.id; bytes = Some bytes } ∷ [] → HasRoom b.store.pool r.body (length bytes)
+  pub texts : IsTextsFor b.settings.numbers.uploads r.texts r.upload.metadata r.upload.concat
 
 -- The same of a final upload: there is an empty body with room for each of its segments, and an empty list with room for
 -- its pieces.
@@ -108,6 +113,7 @@ pub record IsReadyForBack (b : StoredBook) (r : ReadyBack) : Type 0 where
   pub rooms : AreRoomsFor b.store.pool.block_size (pieces_of (stored_tenant_at b.store r.tenant)) r.upload.segments r.bodies.items
   pub empty : r.pieces.items ≡ []
   pub listed : length r.upload.segments ≤ vec_capacity r.pieces
+  pub texts : IsTextsFor b.settings.numbers.uploads r.texts r.upload.metadata r.upload.concat
 
 -- the same of totals
 abbrev pub IsReadyForTotals : StoredBook → ReadyTotals → Type 0

@@ -1,5 +1,5 @@
 -- How a book keeps its uploads in blocks, and what it keeps of them.
-use Rattle.std.specs.Prelude.{◌≡◌, ℕ, ◌<◌, ◌≤◌, ◌==◌, List, [], All, Contains, flat_map, length, map, Option, option_and_then, slice_get, if◌then◌else◌}
+use Rattle.std.specs.Prelude.{◌≡◌, ℕ, ◌<◌, ◌≤◌, ◌==◌, Bool, List, [], All, Contains, flat_map, length, map, Option, option_and_then, slice_get, if◌then◌else◌}
 use Rattle.std.specs.List.{sum_by}
 use Rattle.block_pool.specs.Blocks.{Blocks, count_at, places_of}
 use Rattle.block_bodies.specs.Bodies.{StandsOnce, blocks_for, content_of}
@@ -11,7 +11,8 @@ use Rattle.upload_book.specs.declared.pieces.Piece.{Piece}
 use Rattle.upload_book.specs.TenantBook.{TenantBook, TenantPart, Entry}
 use Rattle.upload_book.specs.Upload.{Upload}
 
--- an upload as it is kept: for each segment that the plain book has, a piece
+-- an upload as it is kept: for each segment that the plain book has, a piece; and whether its texts lie in a box that was
+-- there from the start
 pub record StoredUpload : Type 0 where
   pub kind : Kind
   pub declared : Option ℕ
@@ -19,6 +20,7 @@ pub record StoredUpload : Type 0 where
   pub metadata : List ℕ
   pub concat : List ℕ
   pub expires : Option ℕ
+  pub boxed : Bool
 
 -- the block at a place of one of an upload's pieces, both from 0, where there is one
 abbrev pub block_at : StoredUpload → ℕ → ℕ → Option ℕ

@@ -11,3 +11,4 @@ pub mod PieceRefusal
 pub mod Pieces
 pub mod Places
 pub mod Swept
+pub mod Texts

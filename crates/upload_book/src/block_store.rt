@@ -22,6 +22,7 @@ ghost use Rattle.upload_book.specs.Stored.{part_kept, pieces_of, segment_of, Hol
 ghost use Rattle.upload_book.specs.inside.Pieces.{as_piece, no_chain, own_chain, HasOwnPiece};
 ghost use Rattle.block_bodies.specs.Bodies.{HasRoom};
 ghost use Rattle.block_bodies.specs.Changes.{SameSizes};
+ghost use Rattle.upload_book.specs.inside.Texts.{IsTextsFor};
 ghost use Rattle.upload_book.specs.TenantBook.{visible_upload, with_new, with_next};
 ghost use Rattle.upload_book.specs.Upload.{content_of, head_row_of, offset_of};
 
@@ -40,6 +41,7 @@ use crate::row_ref::RowRef;
 use crate::settings::Settings;
 use crate::stored_tenant::StoredTenant;
 use crate::stored_upload::{StoredUpload, body_for};
+use crate::texts::{SharedTexts, UploadTexts};
 use block_bodies::Body;
 use block_pool::Pool;
 use std::alloc::{AllocError, Global};
@@ -67,7 +69,8 @@ impl Model for BlockStore {
 
 impl BlockStore {
     /// The store with no upload, with a part for each tenant of the settings. All its memory is taken here,
-    /// but for the lists of the blocks of its uploads; the error is that there was too little.
+    /// but for the lists of the blocks of its uploads, and for their texts where a tenant may have more than 64; the error is
+    /// that there was too little.
     pub(crate) fn new(alloc: Global, settings: &Settings) -> Result<BlockStore, AllocError>
         ensures value { IfOk result (λ s. s ≡ record {
           pool = all_free settings.now.numbers.blocks settings.now.numbers.block_size;
@@ -294,8 +297,8 @@ impl BlockStore {
         Ok(body)
     }
 
-    /// Creates an upload with these bytes, for which the body has room, and with this end as the tenant's next one;
-    /// its texts get a box that is spare. Gives how many blocks were taken for the bytes.
+    /// Creates an upload with these bytes, for which the body has room, and with this end as the tenant's next one. Its texts
+    /// are those that were taken, or get a box that is spare. Gives how many blocks were taken for the bytes.
     pub(crate) fn create(
         &mut self,
         tenant: usize,
@@ -303,6 +306,7 @@ impl BlockStore {
         body: Body,
         bytes: &[u8],
         expires: Option<Moment>,
+        taken_texts: Option<SharedTexts>,
     ) -> u64
         requires tenant { tenant < length self.old.stored_tenants }
         requires room { length (stored_tenant_at self.old tenant).uploads < self.old.room }
@@ -313,6 +317,7 @@ impl BlockStore {
             + blocks_between self.old.pool.block_size 0 (length bytes.now) ≤ size_of self.old.pool }
         requires empty { body ≡ record no_chain { room = body.room } }
         requires listed { HasRoom self.old.pool body (length bytes.now) }
+        requires texts { IsTextsFor self.old.room taken_texts new.now.metadata new.now.concat }
         ensures plain { plain_in self.new ≡ set (plain_in self.old) tenant
             (with_new (part_at self.old tenant) (upload_from new.now bytes.now expires)) }
         ensures taken { result ≡ blocks_between self.old.pool.block_size 0 (length bytes.now) }
@@ -324,7 +329,8 @@ impl BlockStore {
         let mut body = body;
         let taken = body.put(&mut self.pool, bytes);
         let stored_tenant = &mut self.stored_tenants[tenant];
-        let texts = stored_tenant.spare.pop().unwrap();
+        let spare = &mut stored_tenant.spare;
+        let texts = UploadTexts::placed(spare, taken_texts, new.metadata, new.concat);
         let upload = StoredUpload::new(stored_tenant.next, new, body, expires, texts);
         stored_tenant.uploads.push_reserved(upload);
         stored_tenant.next += 1;
@@ -398,6 +404,7 @@ impl BlockStore {
         requires metadata { IsTrue (is_kept_metadata ready.new.metadata) }
         requires concat { IsConcatText Final ready.new.concat }
         requires listed { IsListed self.old tenant ready }
+        requires texts { IsTextsFor self.old.room ready.texts ready.new.metadata ready.new.concat }
         ensures plain { plain_in self.new ≡ set (plain_in self.old) tenant
             (with_new (part_at self.old tenant)
             (final_upload (parts_found (part_at self.old tenant) ready.entry.now ready.entry.new.parts) ready.entry.new)) }
@@ -412,12 +419,14 @@ impl BlockStore {
             len,
             unheld,
             pieces,
+            texts,
             ..
         } = ready;
         let mut pieces = pieces;
         hold_each(unheld, &mut self.pool, &mut pieces);
         let stored_tenant = &mut self.stored_tenants[tenant];
-        let texts = stored_tenant.spare.pop().unwrap();
+        let spare = &mut stored_tenant.spare;
+        let texts = UploadTexts::placed(spare, texts, new.metadata, new.concat);
         let upload = StoredUpload::joined(stored_tenant.next, &new, pieces, len, texts);
         stored_tenant.uploads.push_reserved(upload);
         stored_tenant.next += 1;
@@ -495,6 +504,7 @@ impl BlockStore {
             upload,
             bodies,
             pieces,
+            texts,
             ..
         } = ready;
         let before = self.pool.free();
@@ -503,7 +513,8 @@ impl BlockStore {
         self.stored_tenants[tenant].bring_each(upload.segments, bodies, pool, &mut pieces);
         let taken = u64::from(before - self.pool.free());
         let stored_tenant = &mut self.stored_tenants[tenant];
-        let texts = stored_tenant.spare.pop().unwrap();
+        let spare = &mut stored_tenant.spare;
+        let texts = UploadTexts::placed(spare, texts, upload.metadata, upload.concat);
         let len = upload.declared.unwrap_or(0);
         let upload = StoredUpload::joined(
             stored_tenant.next,
@@ -625,7 +636,7 @@ impl BlockStore {
         let stored_tenant = &mut self.stored_tenants[tenant];
         let upload = stored_tenant.uploads.remove(place);
         let (freed, texts) = upload.give_back(&mut self.pool);
-        stored_tenant.spare.push_reserved(texts);
+        texts.give_back(&mut stored_tenant.spare);
         stored_tenant.charge -= freed;
         freed
     }

@@ -47,7 +47,7 @@ pub enum Change<'a> {
     /// where what stands under the id of a part is no partial upload that has all of its bytes; Uploads, where the tenant
     /// has its greatest number of uploads; Spent, where the tenant has not so many ids, or the blocks that all tenants may
     /// be charged are used up; Quota. Where none of them does, it may be refused as Memory: there was none for the lists
-    /// of its blocks.
+    /// of its blocks, or for its texts.
     ///
     /// A tenant's next id is refused as Field where an id would be given again, and as Spent where the tenant has not so
     /// many. Totals are refused as Field where less would have been released than before, and as Spent where more would have

@@ -19,6 +19,7 @@ use crate::parts_seen::PartsSeen;
 use crate::ready::ReadyFinal;
 use crate::refusal::Refusal;
 use crate::settings::Numbers;
+use crate::texts::texts_ahead;
 use std::marker::Model;
 
 /// The final upload that a concatenation asks for (tus 1.0.0, Concatenation). A contract sees its parts
@@ -55,7 +56,7 @@ impl Book {
     /// partial upload of the tenant, as PartOpen where a part does not have all of its bytes, as Uploads
     /// where the tenant has its greatest number of uploads, expired ones included, and as Spent where the
     /// tenant's ids are used up. Where none of them applies, it may be refused as Memory: there was none
-    /// for the lists of its blocks. A refusal leaves the book as it was, and uses no id.
+    /// for the lists of its blocks, or for its texts. A refusal leaves the book as it was, and uses no id.
     pub fn concat(&mut self, tenant: u8, new: NewFinal, now: Moment) -> Result<Created, Refusal>
         requires tenant_there { tenant < length (plain_of self.old).settings.tenants }
         requires some { 0 < length new.parts }
@@ -105,6 +106,9 @@ impl Book {
         let Ok(unheld) = self.store.list_parts(self.alloc, place, new.parts, now) else {
             return Err(Refusal::Memory);
         };
+        let Ok(texts) = texts_ahead(self.alloc, numbers, new.metadata, new.concat) else {
+            return Err(Refusal::Memory);
+        };
         match Vec::with_capacity(self.alloc, unheld.len()) {
             Ok(pieces) => Ok(ReadyFinal {
                 tenant,
@@ -113,6 +117,7 @@ impl Book {
                 len: seen.len,
                 unheld,
                 pieces,
+                texts,
             }),
             Err(_) => Err(Refusal::Memory),
         }

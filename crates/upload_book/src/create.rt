@@ -22,6 +22,7 @@ use crate::progress::{blocks_added, ends_past};
 use crate::ready::ReadyUpload;
 use crate::refusal::Refusal;
 use crate::settings::Numbers;
+use crate::texts::texts_ahead;
 use std::marker::Model;
 use tus_text::Checksum;
 
@@ -124,19 +125,21 @@ pub struct Created {
 }
 
 impl Book {
-    /// Creates an upload of the tenant at this place, under the next id. It has no bytes, and takes no memory.
+    /// Creates an upload of the tenant at this place, under the next id. It has no bytes. It takes no memory but for its
+    /// texts, and that only where the settings allow a tenant more than 64 uploads.
     ///
     /// It is refused, in this order, as TooLong where the length is above the greatest size, as
     /// Uploads where the tenant has its greatest number of uploads, expired ones included, and as
-    /// Spent where the tenant's ids are used up. A refusal leaves the book as it was, and uses no id.
+    /// Spent where the tenant's ids are used up. Where none of them applies and the settings allow a tenant more than 64
+    /// uploads, it may be refused as Memory: there was none for its texts. A refusal leaves the book as it was, and uses no id.
     pub fn create(&mut self, tenant: u8, new: NewUpload, now: Moment) -> Result<Created, Refusal>
         requires tenant_there { tenant < length (plain_of self.old).settings.tenants }
         requires metadata { IsTrue (is_kept_metadata new.metadata) }
         requires concat { IsConcatText (new_kind new.partial) new.concat }
-        ensures answer { result ≡ answer_of (plain_of self.old) tenant
-            (create_empty_answer tenant new.entry now) }
-        ensures after { plain_of self.new ≡ book_after (plain_of self.old) tenant
-            (part_after_create_empty new.entry now) }
+        ensures answer { IsAnswer (answer_of (plain_of self.old) tenant (create_empty_answer tenant new.entry now))
+            (MayLackMemory (plain_of self.old) (operation.Create tenant new.entry) now) (Err Memory) result }
+        ensures accepted { OnOk result (plain_of self.new ≡ book_after (plain_of self.old) tenant
+            (part_after_create_empty new.entry now)) }
         ensures refused { OnErr result (self.new ≡ self.old) }
     {
         // the settings tell that the book is lawful, so no more was charged than may be
@@ -152,9 +155,9 @@ impl Book {
     /// size, or the bytes go past the length; Algorithm; Mismatch; Uploads, where the tenant has its greatest
     /// number of uploads, expired ones included; Spent, where the tenant's ids are used up, or the blocks that
     /// all tenants may be charged; Quota. Bytes that are to come behind the first count for TooLong, Spent and
-    /// Quota. Where none of them does and the bytes, with those that are to come, take a block or more, it may be
-    /// refused as Memory: there was none for the list of the upload's blocks. A refusal leaves the book as it was,
-    /// and uses no id.
+    /// Quota. Where none of them does and the bytes, with those that are to come, take a block or more, or the settings
+    /// allow a tenant more than 64 uploads, it may be refused as Memory: there was none for the list of the upload's blocks,
+    /// or for its texts. A refusal leaves the book as it was, and uses no id.
     pub fn create_with(
         &mut self,
         tenant: u8,
@@ -178,8 +181,8 @@ impl Book {
         Ok(self.put_upload(ready))
     }
 
-    // Makes room for a creation's first bytes, and for all that are to come behind them, or finds why it is refused. It
-    // changes nothing.
+    // Makes room for a creation's first bytes, for all that are to come behind them, and for its texts, or finds why it is
+    // refused. It changes nothing.
     pub(crate) fn ready_for_upload<'a>(
         &self,
         tenant: u8,
@@ -217,14 +220,18 @@ impl Book {
         let len = first.bytes.len() as u64;
         let count = len + first.more;
         let expires = new.first_end(numbers, len, now);
-        match self.store.body_for(self.alloc, count) {
-            Ok(body) => Ok(ReadyUpload {
+        let Ok(body) = self.store.body_for(self.alloc, count) else {
+            return Err(Refusal::Memory);
+        };
+        match texts_ahead(self.alloc, numbers, new.metadata, new.concat) {
+            Ok(texts) => Ok(ReadyUpload {
                 tenant,
                 new,
                 first,
                 now,
                 expires,
                 body,
+                texts,
             }),
             Err(_) => Err(Refusal::Memory),
         }
@@ -245,6 +252,7 @@ impl Book {
             first,
             expires,
             body,
+            texts,
             ..
         } = ready;
         let bytes = first.bytes.as_slice();
@@ -256,7 +264,8 @@ impl Book {
         };
         // the numbers tell that what may be charged in all is a number
         let _in_range = self.settings.numbers();
-        self.charged += self.store.create(place, &new, body, bytes, created.expires);
+        let store = &mut self.store;
+        self.charged += store.create(place, &new, body, bytes, created.expires, texts);
         self.expiries.set_end(created.name, None, created.expires);
         created
     }

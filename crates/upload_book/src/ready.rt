@@ -6,6 +6,7 @@ use crate::moment::Moment;
 use crate::pieces::{Piece, UnheldPiece};
 use crate::progress::Progress;
 use crate::restored::RestoredUpload;
+use crate::texts::SharedTexts;
 use block_bodies::Body;
 
 /// A change that [`crate::Book::prepare`] accepted, with all the memory that it takes: [`crate::Book::commit`] makes it.
@@ -60,6 +61,8 @@ pub(crate) struct ReadyUpload<'a> {
     pub(crate) expires: Option<Moment>,
     /// A body with room for the first bytes, and for all that are to come behind them.
     pub(crate) body: Body,
+    /// Its texts, where memory is taken for them.
+    pub(crate) texts: Option<SharedTexts>,
 }
 
 /// A concatenation that was accepted, for the tenant at this place.
@@ -74,6 +77,8 @@ pub(crate) struct ReadyFinal<'a> {
     pub(crate) unheld: Vec<UnheldPiece>,
     /// An empty list with room for them once they are.
     pub(crate) pieces: Vec<Piece>,
+    /// Its texts, where memory is taken for them.
+    pub(crate) texts: Option<SharedTexts>,
 }
 
 /// A sweep.
@@ -120,6 +125,8 @@ pub(crate) struct ReadyOwn<'a> {
     pub(crate) upload: RestoredUpload<'a>,
     /// A body with room for its bytes.
     pub(crate) body: Body,
+    /// Its texts, where memory is taken for them.
+    pub(crate) texts: Option<SharedTexts>,
 }
 
 /// A final upload that is put back, for the tenant at this place.
@@ -131,4 +138,6 @@ pub(crate) struct ReadyBack<'a> {
     pub(crate) bodies: Vec<Body>,
     /// An empty list with room for its pieces.
     pub(crate) pieces: Vec<Piece>,
+    /// Its texts, where memory is taken for them.
+    pub(crate) texts: Option<SharedTexts>,
 }

@@ -23,6 +23,7 @@ use crate::ready::{ReadyBack, ReadyNext, ReadyOwn, ReadyPiece, ReadyTotals};
 use crate::refusal::Refusal;
 use crate::restored::{Restored, RestoredUpload};
 use crate::settings::Numbers;
+use crate::texts::texts_ahead;
 
 impl Book {
     /// Finds whether a piece is put back, and takes all memory that it takes. It changes nothing.
@@ -104,12 +105,17 @@ impl Book {
         let Ok(bodies) = self.store.rooms_for(self.alloc, place, upload.segments) else {
             return Err(Refusal::Memory);
         };
+        let numbers = self.settings.numbers();
+        let Ok(texts) = texts_ahead(self.alloc, numbers, upload.metadata, upload.concat) else {
+            return Err(Refusal::Memory);
+        };
         match Vec::with_capacity(self.alloc, upload.segments.len()) {
             Ok(pieces) => Ok(ReadyBack {
                 tenant,
                 upload,
                 bodies,
                 pieces,
+                texts,
             }),
             Err(_) => Err(Refusal::Memory),
         }
@@ -191,11 +197,15 @@ impl Book {
         if let Some(refusal) = own_refusal(numbers, &account, &self.store, place, &upload, len) {
             return Err(refusal);
         }
-        match self.store.body_for(self.alloc, len) {
-            Ok(body) => Ok(ReadyOwn {
+        let Ok(body) = self.store.body_for(self.alloc, len) else {
+            return Err(Refusal::Memory);
+        };
+        match texts_ahead(self.alloc, numbers, upload.metadata, upload.concat) {
+            Ok(texts) => Ok(ReadyOwn {
                 tenant,
                 upload,
                 body,
+                texts,
             }),
             Err(_) => Err(Refusal::Memory),
         }
@@ -211,6 +221,7 @@ impl Book {
             tenant,
             upload,
             body,
+            texts,
         } = ready;
         let bytes = upload.own_bytes();
         let new = upload.as_new();
@@ -224,7 +235,8 @@ impl Book {
         };
         // the numbers tell that what may be charged in all is a number
         let _in_range = self.settings.numbers();
-        self.charged += self.store.create(place, &new, body, bytes, created.expires);
+        let store = &mut self.store;
+        self.charged += store.create(place, &new, body, bytes, created.expires, texts);
         self.expiries.set_end(created.name, None, created.expires);
     }
 

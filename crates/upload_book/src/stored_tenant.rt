@@ -1,4 +1,4 @@
-ghost use Rattle.std.specs.Prelude.{◌≡◌, ◌==◌, ℕ, ◌++◌, ◌+◌, ◌-◌, ◌<◌, ◌≤◌, None, Some, IfOk, IfErr, IfSome, IfNone, drop, flat_map, get_or, is_some, length, option_map, position, take, vec_capacity, vec_len};
+ghost use Rattle.std.specs.Prelude.{◌≡◌, ◌==◌, ℕ, ◌++◌, ◌+◌, ◌-◌, ◌<◌, ◌≤◌, All, None, Some, IfOk, IfErr, IfSome, IfNone, drop, flat_map, get_or, is_some, length, option_map, position, take, vec_capacity, vec_len};
 ghost use Rattle.std.specs.List.Sorted.{IsPermutation};
 ghost use Rattle.block_pool.specs.Blocks.{free_in};
 ghost use Rattle.block_bodies.specs.Bodies.{IsHeld};
@@ -6,7 +6,7 @@ ghost use Rattle.block_bodies.specs.Changes.{GivesBack};
 ghost use Rattle.upload_book.specs.inside.ChargeAfter.{left};
 ghost use Rattle.upload_book.specs.inside.FinalBack.{chain_from};
 ghost use Rattle.upload_book.specs.Stored as stored;
-ghost use Rattle.upload_book.specs.inside.Swept.{EndsExpired};
+ghost use Rattle.upload_book.specs.inside.Swept.{EndsExpired, FindsRoom, IsBoxed};
 ghost use Rattle.upload_book.specs.Stored.{part_kept, pieces_of, placed_in};
 ghost use Rattle.upload_book.specs.TenantBook.{Entry, opening_part, visible_in};
 
@@ -15,13 +15,13 @@ use crate::head_row::Kind;
 use crate::moment::Moment;
 use crate::refusal::Refusal;
 use crate::stored_upload::StoredUpload;
-use crate::texts::Texts;
+use crate::texts::{Texts, boxes_from_start};
 use block_bodies::Body;
 use block_pool::Pool;
 use std::alloc::{AllocError, Global};
 
 /// A tenant's part of the book: its quota in blocks, the id that its next upload gets, the blocks that it
-/// pays, its uploads by ascending id, and the boxes for the texts of as many more as it may have.
+/// pays, its uploads by ascending id, and, where it may have at most 64, the boxes for the texts of as many more.
 #[derive(Drop)]
 pub(crate) struct StoredTenant {
     pub(crate) quota: u64,
@@ -36,7 +36,8 @@ impl StoredTenant {
     ghost use Rattle.upload_book.specs.inside.Kept.{stored_tenant_of, AreInOrder, HasUploadRoom, IsPartAt, IsVisibleAt};
 
     /// The part of a tenant that has no upload yet, with room for so many. All memory for them is taken here, but
-    /// for the lists of their blocks; the error is that there was too little.
+    /// for the lists of their blocks, and for their texts where they may be more than 64; the error is that there was too
+    /// little.
     pub(crate) fn new(alloc: Global, quota: u64, room: usize) -> Result<StoredTenant, AllocError>
         ensures stored_tenant { IfOk result (λ t. stored_tenant_of t ≡ opening_part quota) }
         ensures charge { IfOk result (λ t. t.charge ≡ 0) }
@@ -47,7 +48,7 @@ impl StoredTenant {
             next: 1,
             charge: 0,
             uploads: Vec::with_capacity(alloc, room)?,
-            spare: Texts::boxes(alloc, room)?,
+            spare: Texts::boxes(alloc, boxes_from_start(room))?,
         })
     }
 
@@ -116,11 +117,11 @@ impl StoredTenant {
         }
     }
 
-    /// Ends the uploads that have expired at `now`: each of their blocks is held once less, and their boxes are spare. Gives how
+    /// Ends the uploads that have expired at `now`: each of their blocks is held once less, and the boxes of their texts, where these lie in some, are spare. Gives how
     /// many they were. It goes over the uploads once, and over the blocks of those that end.
     pub(crate) fn sweep(&mut self, now: Moment, pool: &mut Pool) -> usize
         requires held { IsHeld pool.old (placed_in (pieces_of (stored_tenant_of self.old))) }
-        requires room { vec_len self.old.uploads + vec_len self.old.spare ≤ vec_capacity self.old.spare }
+        requires room { All (FindsRoom (vec_len self.old.uploads + vec_len self.old.spare) (vec_capacity self.old.spare)) self.old.uploads.items }
         ensures ends { EndsExpired now pool.old self.old.uploads.items pool.new self.new.uploads.items }
         ensures ended { result + length self.new.uploads.items ≡ length self.old.uploads.items }
         ensures quota { self.new.quota ≡ self.old.quota }
@@ -177,7 +178,7 @@ fn gather_left(uploads: &mut Vec<StoredUpload>, now: Moment) -> usize
     left
 }
 
-// Ends the uploads from a place on, and puts their boxes to the spare ones, which have room for them.
+// Ends the uploads from a place on. The boxes of their texts, where these lie in some, are spare then.
 fn end_from(
     place: usize,
     uploads: &mut Vec<StoredUpload>,
@@ -186,17 +187,17 @@ fn end_from(
 )
     requires place { place ≤ length uploads.old.items }
     requires held { IsHeld pool.old (placed_in (flat_map (λ e. e.kept.pieces) (drop place uploads.old.items))) }
-    requires room { vec_len uploads.old + vec_len spare.old ≤ vec_capacity spare.old }
+    requires room { All (FindsRoom (vec_len uploads.old + vec_len spare.old) (vec_capacity spare.old)) uploads.old.items }
     ensures uploads { uploads.new.items ≡ take place uploads.old.items }
     ensures gives { GivesBack pool.old (placed_in (flat_map (λ e. e.kept.pieces) (drop place uploads.old.items)))
         (free_in pool.new - free_in pool.old) pool.new }
     ensures capacity { vec_capacity uploads.new ≡ vec_capacity uploads.old }
-    ensures boxes { vec_len uploads.new + vec_len spare.new ≡ vec_len uploads.old + vec_len spare.old }
+    ensures boxes { All IsBoxed uploads.old.items → vec_len uploads.new + vec_len spare.new ≡ vec_len uploads.old + vec_len spare.old }
     ensures spare_room { vec_capacity spare.new ≡ vec_capacity spare.old }
 {
     while uploads.len() > place {
         let upload = uploads.pop().unwrap();
         let (_, texts) = upload.give_back(pool);
-        spare.push_reserved(texts);
+        texts.give_back(spare);
     }
 }

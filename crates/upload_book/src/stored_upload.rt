@@ -15,6 +15,7 @@ ghost use Rattle.upload_book.specs.Progress.{progress_in};
 ghost use Rattle.upload_book.specs.inside.Places.{with_chain, with_head};
 ghost use Rattle.upload_book.specs.Stored.{block_at, pieces_len, placed_in, segment_of, upload_of};
 ghost use Rattle.upload_book.specs.inside.Pieces.{as_piece, bytes_of, final_of, new_stored, no_chain, own_chain, AreBodies, ReadsWhole};
+ghost use Rattle.upload_book.specs.inside.Texts.{concat_in, is_boxed, metadata_in};
 ghost use Rattle.upload_book.specs.Upload.{head_row_of, is_complete, content_of as upload_content_of};
 
 use crate::charge_after::Ended;
@@ -29,24 +30,26 @@ use crate::pieces::{
 };
 use crate::progress::Progress;
 use crate::row_ref::RowRef;
-use crate::texts::Texts;
+use crate::texts::UploadTexts;
 use block_bodies::{Body, BodyFault};
 use block_pool::{BlockId, Pool};
 use std::alloc::{AllocError, Global};
 use std::marker::Model;
 
-/// An upload under its id, with its bytes in blocks. Its row is short: its texts lie in a box.
+/// An upload under its id, with its bytes in blocks. Its row is short: its texts lie elsewhere.
 #[derive(Drop)]
 pub(crate) struct StoredUpload {
     id: u64,
     held: HeldBytes,
     declared: Option<u64>,
     expires: Option<Moment>,
-    texts: Box<Texts>,
+    texts: UploadTexts,
 }
 
 impl Model for StoredUpload {
+    ghost use Rattle.std.specs.Prelude.{◌≤◌, length};
     ghost use Rattle.upload_book.specs.inside.HeldBytes.{kind_of, pieces_in, CountsBytes};
+    ghost use Rattle.upload_book.specs.inside.Texts.{concat_in, is_boxed, metadata_in};
     ghost use Rattle.upload_book.specs.TenantBook.{Entry};
     ghost use Rattle.upload_book.specs.Stored as stored;
 
@@ -58,30 +61,30 @@ impl Model for StoredUpload {
         kind = kind_of u.held;
         declared = u.declared;
         pieces = pieces_in u.id u.held;
-        metadata = u.texts.value.metadata;
-        concat = u.texts.value.concat;
+        metadata = metadata_in u.texts;
+        concat = concat_in u.texts;
         expires = u.expires;
+        boxed = is_boxed u.texts;
       };
     } };
 
-    ghost invariant = { λ u. CountsBytes u.held };
+    ghost invariant = { λ u. CountsBytes u.held × (length (metadata_in u.texts) ≤ 1024) × (length (concat_in u.texts) ≤ 2048) };
 }
 
 impl StoredUpload {
-    /// A new upload with these bytes and this end. It takes no memory: its texts are written into this box,
-    /// whatever the box had before.
+    /// A new upload with these bytes and this end, whose texts lie there. It takes no memory.
     pub(crate) fn new(
         id: u64,
         new: &NewUpload,
         body: Body,
         expires: Option<Moment>,
-        mut texts: Box<Texts>,
+        texts: UploadTexts,
     ) -> StoredUpload
         requires metadata { IsTrue (is_kept_metadata new.now.metadata) }
         requires concat { IsConcatText (new_kind new.now.partial) new.now.concat }
-        ensures { result ≡ record { id = id; kept = new_stored new.now id body expires } }
+        requires texts { (metadata_in texts ≡ new.now.metadata) × (concat_in texts ≡ new.now.concat) }
+        ensures { result ≡ record { id = id; kept = new_stored new.now id body expires (is_boxed texts) } }
     {
-        texts.set(new.metadata, new.concat);
         StoredUpload {
             id,
             held: HeldBytes::Own {
@@ -94,21 +97,20 @@ impl StoredUpload {
         }
     }
 
-    /// A final upload of these pieces, which are so many bytes together. Its texts are written into this box,
-    /// whatever the box had before.
+    /// A final upload of these pieces, which are so many bytes together. Its texts lie there.
     pub(crate) fn joined(
         id: u64,
         new: &NewFinal,
         pieces: Vec<Piece>,
         len: u64,
-        mut texts: Box<Texts>,
+        texts: UploadTexts,
     ) -> StoredUpload
         requires metadata { IsTrue (is_kept_metadata new.now.metadata) }
         requires concat { IsConcatText Final new.now.concat }
+        requires texts { (metadata_in texts ≡ new.now.metadata) × (concat_in texts ≡ new.now.concat) }
         requires len { len ≡ pieces_len pieces.items }
-        ensures { result ≡ record { id = id; kept = final_of new.now pieces.items } }
+        ensures { result ≡ record { id = id; kept = final_of (is_boxed texts) new.now pieces.items } }
     {
-        texts.set(new.metadata, new.concat);
         StoredUpload {
             id,
             held: HeldBytes::Joined { len, pieces },
@@ -183,8 +185,8 @@ impl StoredUpload {
         RowRef::new(
             self.kind(),
             growth,
-            self.texts.metadata.as_slice(),
-            self.texts.concat.as_slice(),
+            self.texts.metadata(),
+            self.texts.concat(),
         )
     }
 
@@ -402,11 +404,12 @@ impl StoredUpload {
         self.expires = expires;
     }
 
-    /// Ends the upload: each of its blocks is held once less. Gives how many became free, and the box of its texts,
-    /// for another upload.
-    pub(crate) fn give_back(self, pool: &mut Pool) -> (u64, Box<Texts>)
+    /// Ends the upload: each of its blocks is held once less. Gives how many became free, and its texts, whose box may serve
+    /// another upload.
+    pub(crate) fn give_back(self, pool: &mut Pool) -> (u64, UploadTexts)
         requires { IsHeld pool.old (placed_in self.kept.pieces) }
-        ensures { GivesBack pool.old (placed_in self.kept.pieces) result.0 pool.new }
+        ensures blocks { GivesBack pool.old (placed_in self.kept.pieces) result.0 pool.new }
+        ensures kind { is_boxed result.1 ≡ self.kept.boxed }
     {
         let StoredUpload { held, texts, .. } = self;
         let freed = match held {

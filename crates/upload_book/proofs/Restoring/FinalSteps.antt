@@ -11,6 +11,7 @@ use Rattle.upload_book.specs.declared.head_row.Kind.{Kind}
 use Rattle.upload_book.specs.declared.head_row.Kind.TheVariants.{Final}
 use Rattle.upload_book.specs.declared.ready.ReadyBack.{ReadyBack}
 use Rattle.upload_book.specs.inside.FinalBack.{brought_in, sent_len}
+use Rattle.upload_book.specs.inside.Texts.{IsTextsFor}
 use Rattle.upload_book.specs.inside.Places.{MayKeep}
 use Rattle.upload_book.specs.Lawful.{IsLawful, IsTenantOf}
 use Rattle.upload_book.specs.PlainBook.{tenant_book, with_tenant_book}
@@ -122,6 +123,7 @@ module _ (b : StoredBook) (t : ℕ) (r : RestoredUpload) (is : IsFinalBack b t r
         rooms = asked_at.rooms;
         empty = asked_at.empty;
         listed = asked_at.listed;
+        texts = subst (λ (room : ℕ). IsTextsFor room ready.texts r.metadata r.concat) (sym is.kept.room) asked_at.texts;
       })
 
   -- the book with it

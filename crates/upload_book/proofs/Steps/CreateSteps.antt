@@ -12,9 +12,9 @@ use Rattle.upload_book.specs.Account.{account_in, blocks_added, blocks_between}
 use Rattle.upload_book.specs.Append.{is_too_long}
 use Rattle.upload_book.specs.Book.{StoredBook, IsBook, plain_of}
 use Rattle.upload_book.specs.Charge.{charge_in, charge_with}
-use Rattle.upload_book.specs.Create.{creation_refusal, creation_tests, create_answer, create_empty_answer, created_upload, part_after_create, part_after_create_empty}
+use Rattle.upload_book.specs.Create.{creation_refusal, creation_tests, create_answer, create_empty_answer, created_upload, part_after_create, part_after_create_empty, TakesMemory, TakesTexts}
 use Rattle.upload_book.specs.declared.create.Created.{Created}
-use Rattle.upload_book.specs.Operation.{CreateWith, MayLackMemory}
+use Rattle.upload_book.specs.Operation.{Create, CreateWith, MayLackMemory}
 use Rattle.upload_book.specs.declared.refusal.Refusal.{Refusal}
 use Rattle.upload_book.specs.declared.refusal.Refusal.TheVariants.{Memory, Spent}
 use Rattle.upload_book.specs.declared.settings.Numbers.{Numbers}
@@ -153,8 +153,8 @@ module _ (b : StoredBook) (t : ℕ) (new : NewUpload) (first : FirstChunk) (now 
       create_answer-none t b.settings.numbers part new first now b.charged is.none
       ∙ ap₂ (λ id expires. Ok (told id expires)) (sym given) (sym end)
 
-  -- where all take a block, memory may lack for it
-  pub create-lacks : 0 < all_create_blocks → IsOk (create_answer t new first now b.charged b.settings.numbers part) × (0 < all_create_blocks)
+  -- where memory is taken for it, it may lack
+  pub create-lacks : TakesMemory b.settings.numbers first → IsOk (create_answer t new first now b.charged b.settings.numbers part) × TakesMemory b.settings.numbers first
   create-lacks some = (subst IsOk (sym (create-answer (part_at b.store t).next made.expires refl refl)) refl, some)
 
 -- the book after a creation, which a refusal leaves as it was
@@ -192,17 +192,22 @@ left-alike : (n : Numbers) (part : TenantBook) (new : NewUpload) (first : FirstC
 left-alike n part new first now c d same = rw same refl
 
 -- and so its answer
-pub empty-answer : (b : PlainBook) (t : ℕ) (new : NewUpload) (now : ℕ) (result : Result Created Refusal) → IsLawful b → IsAnswer (answer_of b t (create_answer t new no_chunk now b.charged)) (MayLackMemory b (CreateWith t new no_chunk) now) (Err Memory) result
-    → result ≡ answer_of b t (create_empty_answer t new now)
-empty-answer b t new now result lawful (inl is) =
-    is ∙ answered-alike t b.settings.numbers (tenant_book b t) new no_chunk now b.charged 0 (empty-refusal b.settings.numbers (tenant_book b t) new b.charged lawful.last)
-empty-answer b t new now result lawful (inr lacks) = absurd (omega (arith, lacks.0.1, none-added b.settings.numbers.block_size))
+module _ (b : PlainBook) (t : ℕ) (new : NewUpload) (now : ℕ) (lawful : IsLawful b) where
+  same_answer : answer_of b t (create_answer t new no_chunk now b.charged) ≡ answer_of b t (create_empty_answer t new now)
+  same_answer = answered-alike t b.settings.numbers (tenant_book b t) new no_chunk now b.charged 0 (empty-refusal b.settings.numbers (tenant_book b t) new b.charged lawful.last)
 
--- and the book after it are those that it has without what was charged
-pub after-empty : (b : PlainBook) (t : ℕ) (new : NewUpload) (now : ℕ) (result : Result Created Refusal) (after : PlainBook) → IsLawful b → result ≡ answer_of b t (create_empty_answer t new now)
-    → OnOk result (after ≡ book_after b t (part_after_create new no_chunk now b.charged)) → OnErr result (after ≡ b) → after ≡ book_after b t (part_after_create_empty new now)
-after-empty b t new now result after lawful is accepted refused =
-    let same = empty-refusal b.settings.numbers (tenant_book b t) new b.charged lawful.last in
-    let told = is ∙ sym (answered-alike t b.settings.numbers (tenant_book b t) new no_chunk now b.charged 0 same) in
-    after-create b t new no_chunk now result after told accepted refused
-    ∙ ap (with_tenant_book b t) (left-alike b.settings.numbers (tenant_book b t) new no_chunk now b.charged 0 same)
+  -- its bytes take no memory
+  texts-alone : TakesMemory b.settings.numbers no_chunk → TakesTexts b.settings.numbers
+  texts-alone (inl some) = absurd (omega (arith, some, none-added b.settings.numbers.block_size))
+  texts-alone (inr texts) = texts
+
+  pub empty-answer : (result : Result Created Refusal) → IsAnswer (answer_of b t (create_answer t new no_chunk now b.charged)) (MayLackMemory b (CreateWith t new no_chunk) now) (Err Memory) result
+      → IsAnswer (answer_of b t (create_empty_answer t new now)) (MayLackMemory b (Create t new) now) (Err Memory) result
+  empty-answer result (inl is) = inl (is ∙ same_answer)
+  empty-answer result (inr lacks) = inr ((subst IsOk same_answer lacks.0.0, texts-alone lacks.0.1), lacks.1)
+
+  -- and the book after it are those that it has without what was charged
+  pub after-empty : (result : Result Created Refusal) (after : PlainBook) → OnOk result (after ≡ book_after b t (part_after_create new no_chunk now b.charged)) → OnOk result (after ≡ book_after b t (part_after_create_empty new now))
+  after-empty (Ok told) after accepted =
+      accepted ∙ ap (with_tenant_book b t) (left-alike b.settings.numbers (tenant_book b t) new no_chunk now b.charged 0 (empty-refusal b.settings.numbers (tenant_book b t) new b.charged lawful.last))
+  after-empty (Err why) after accepted = accepted

@@ -12,11 +12,10 @@ use Rattle.block_bodies.specs.Changes.{Holds, MayHold, Puts}
 use Rattle.block_bodies.proofs.EachBlock.{Holds-none}
 use Rattle.upload_book.specs.declared.pieces.Piece.{Piece}
 use Rattle.upload_book.specs.inside.FinalBack.{Brings, BringsTo, HasBytes, IsRoomFor, MayBring, brought_blocks, brought_in, chain_from, segment_len}
-use Rattle.upload_book.specs.inside.Pieces.{ReadsWhole, final_of, no_chain}
-use Rattle.upload_book.specs.NewFinal.{NewFinal}
+use Rattle.upload_book.specs.inside.Pieces.{ReadsWhole, no_chain}
 use Rattle.upload_book.specs.snapshot.Restore.{bytes_back, bytes_from, sent_back}
 use Rattle.upload_book.specs.snapshot.Restored.{RestoredSegment}
-use Rattle.upload_book.specs.Stored.{Segment, StoredTenant, pieces_of, places_on, segment_of}
+use Rattle.upload_book.specs.Stored.{Segment, StoredTenant, StoredUpload, pieces_of, places_on, segment_of}
 use Rattle.upload_book.specs.TenantBook.{with_new}
 use Rattle.upload_book.proofs.Charge.InUse.{Contains-cases, Contains-none, places-within}
 use Rattle.upload_book.proofs.Restoring.FinalFound.{bytes_from-chain, chain_from-alone, chain_from-contains, next-has, segment_len-is, sent-more, sent_piece, sent_pieces}
@@ -27,20 +26,20 @@ use Rattle.upload_book.proofs.Store.PlainStoredTenants.{content-same, map-same}
 use Rattle.upload_book.proofs.Store.PutLemmas.{own_piece}
 use Rattle.upload_book.proofs.Store.StoredTenants.{Changes, IsStoredOn, places_on-held}
 
--- the part with a final upload of these pieces
-abbrev pub grown : StoredTenant → NewFinal → List Piece → StoredTenant
-grown old new pieces = with_new old (final_of new pieces)
+-- the part with an upload more, which has these pieces
+abbrev pub grown : StoredTenant → StoredUpload → List Piece → StoredTenant
+grown old new pieces = with_new old (record new { pieces = pieces })
 
 -- whose pieces stand after the others
-pub pieces-grown : (old : StoredTenant) (new : NewFinal) (pieces : List Piece) → pieces_of (grown old new pieces) ≡ pieces_of old ++ pieces
-pieces-grown old new pieces = pieces-with_new old (final_of new pieces) ∙ ap (λ (l : List Piece). pieces_of old ++ l) (append-nil pieces)
+pub pieces-grown : (old : StoredTenant) (new : StoredUpload) (pieces : List Piece) → pieces_of (grown old new pieces) ≡ pieces_of old ++ pieces
+pieces-grown old new pieces = pieces-with_new old (record new { pieces = pieces }) ∙ ap (λ (l : List Piece). pieces_of old ++ l) (append-nil pieces)
 
 -- so they are the tenant's,
-pub own-grown : (old : StoredTenant) (new : NewFinal) (pieces : List Piece) (z : Piece) → Contains pieces z → Contains (pieces_of (grown old new pieces)) z
+pub own-grown : (old : StoredTenant) (new : StoredUpload) (pieces : List Piece) (z : Piece) → Contains pieces z → Contains (pieces_of (grown old new pieces)) z
 own-grown old new pieces z c = subst (λ (l : List Piece). Contains l z) (sym (pieces-grown old new pieces)) (Contains-append_right (pieces_of old) pieces z c)
 
 -- and where it gets one more, so does the tenant
-grown-more : (old : StoredTenant) (new : NewFinal) (pieces : List Piece) (x : Piece) → HasOneMore (grown old new pieces) x (grown old new (pieces ++ x ∷ []))
+grown-more : (old : StoredTenant) (new : StoredUpload) (pieces : List Piece) (x : Piece) → HasOneMore (grown old new pieces) x (grown old new (pieces ++ x ∷ []))
 grown-more old new pieces x = record {
   pieces = pieces-grown old new (pieces ++ x ∷ []) ∙ sym (append_assoc (pieces_of old) pieces (x ∷ [])) ∙ ap (λ (l : List Piece). l ++ x ∷ []) (sym (pieces-grown old new pieces));
   next = omega arith;
@@ -74,16 +73,16 @@ Changes-then p old q s r t c d = record {
 
 -- What the blocks of a tenant are where its new final upload has these pieces: as they should be, those that somebody held
 -- keep their bytes, and each piece reads whole.
-pub record Grows (p : Blocks) (old : StoredTenant) (new : NewFinal) (q : Blocks) (pieces : List Piece) : Type 0 where
+pub record Grows (p : Blocks) (old : StoredTenant) (new : StoredUpload) (q : Blocks) (pieces : List Piece) : Type 0 where
   pub changes : Changes p old q (grown old new pieces)
   pub bytes : (b : ℕ) → 0 < count_at p b → bytes_at q b ≡ bytes_at p b
   pub reads : ReadsWhole q (pieces_of (grown old new pieces))
 
-module _ (p : Blocks) (old : StoredTenant) (new : NewFinal) (on : IsStoredOn p old) where
+module _ (p : Blocks) (old : StoredTenant) (new : StoredUpload) (on : IsStoredOn p old) where
   -- with none it has the tenant's
   Grows-none : ReadsWhole p (pieces_of old) → Grows p old new p []
   Grows-none reads = record {
-    changes = Changes-join p old (final_of new []) p on (λ x c. absurd (Contains-none x c)) (Holds-none p);
+    changes = Changes-join p old (record new { pieces = [] }) p on (λ x c. absurd (Contains-none x c)) (Holds-none p);
     bytes = λ b some. refl;
     reads = subst (ReadsWhole p) (sym (pieces-grown old new [] ∙ append-nil (pieces_of old))) reads;
   }
@@ -107,7 +106,7 @@ module _ (p : Blocks) (old : StoredTenant) (new : NewFinal) (on : IsStoredOn p o
     ]
       where
         places-more : (b : ℕ) → places_on b old ≤ places_on b now
-        places-more b = omega (arith, places-with_new b old (final_of new pieces))
+        places-more b = omega (arith, places-with_new b old (record new { pieces = pieces }))
 
     -- one more piece, held once more,
     Grows-held : (x : Piece) (r : Blocks) → IsCopyIn (pieces_of now) x → Holds q x.chain.blocks r → Grows p old new r (pieces ++ x ∷ [])
@@ -152,7 +151,7 @@ none-mapped f None is = refl
 none-mapped f (Some x) is = absurd (cc)
 
 -- the first so many segments are had by these pieces, and the blocks of what they brought are taken
-pub record AreHad (p : Blocks) (old : StoredTenant) (new : NewFinal) (segments : List RestoredSegment) (k : ℕ) (q : Blocks) (pieces : List Piece) : Type 0 where
+pub record AreHad (p : Blocks) (old : StoredTenant) (new : StoredUpload) (segments : List RestoredSegment) (k : ℕ) (q : Blocks) (pieces : List Piece) : Type 0 where
   pub grows : Grows p old new q pieces
   pub done : List (ℕ × List ℕ)
   pub had : sent_back (sent_pieces p (pieces_of old)) (take k segments) ≡ Some done
@@ -171,7 +170,7 @@ pub record AreToHave (p : Blocks) (old : StoredTenant) (segments : List Restored
   pub few : length (pieces_of old) + length segments + 1 < 18446744073709551616
   pub blocks : brought_in p.block_size segments ≤ free_in p
 
-module _ (p : Blocks) (old : StoredTenant) (new : NewFinal) (segments : List RestoredSegment) (all : AreToHave p old segments) where
+module _ (p : Blocks) (old : StoredTenant) (new : StoredUpload) (segments : List RestoredSegment) (all : AreToHave p old segments) where
   -- none are had at the start
   AreHad-none : AreHad p old new segments 0 p []
   AreHad-none = record {

@@ -1,5 +1,5 @@
 -- The store where a final upload is put back as a tenant's next one.
-use Rattle.std.proofs.Common.{◌≡◌, ◌≢◌, ℕ, ◌+◌, ◌<◌, ◌≤◌, List, [], ◌∷◌, ◌++◌, map, length, get_or, set, take, Option, None, Some, unwrap_or, refl, sym, ap, ap₂, ◌∙◌, subst, arith}
+use Rattle.std.proofs.Common.{◌≡◌, ◌≢◌, ℕ, ◌+◌, ◌<◌, ◌≤◌, Bool, true, List, [], ◌∷◌, ◌++◌, map, length, get_or, set, take, Option, None, Some, unwrap_or, refl, sym, ap, ap₂, ◌∙◌, subst, arith}
 use Rattle.std.specs.List.{All}
 use Rattle.std.proofs.Math.ListN.{length-map}
 use Rattle.std.proofs.lemmas.List.{get_or-map, take_all}
@@ -86,6 +86,10 @@ module _ (v : Inside) (t : ℕ) (old : KeptTenant) (r : ReadyBack) (kept : IsKep
     blocks = free-read v (brought_in v.pool.block_size segments) kept may.fits;
   }
 
+  -- the upload with these pieces
+  abbrev joined : Bool → List Piece → StoredUpload
+  joined boxed pieces = final_of boxed (final_named r.upload) pieces
+
   -- each may be had
   pub back-may : MayBringEach v.pool (pieces_of was) segments r.bodies.items
   back-may = record {
@@ -96,15 +100,18 @@ module _ (v : Inside) (t : ℕ) (old : KeptTenant) (r : ReadyBack) (kept : IsKep
         subst (λ (x : Chain). IsRoomFor v.pool.block_size (unwrap_or (segment_len (pieces_of was) (take k segments) s) 0) x) (sym is)
         (subst (λ (s' : RestoredSegment). IsRoomFor v.pool.block_size (unwrap_or (segment_len (pieces_of was) (take k segments) s') 0) (get_or r.bodies.items k x)) (sym at)
         (subst (λ (st : StoredTenant). IsRoomFor v.pool.block_size (unwrap_or (segment_len (pieces_of st) (take k segments) (get_or segments k s)) 0) (get_or r.bodies.items k x)) (stored_tenant_at-part v t old part) room)) in
-        MayBring-next v.pool was (final_named r.upload) segments to-have k q pieces s (AreHad-to v.pool was (final_named r.upload) segments to-have k q pieces (omega (arith, within)) brings) within at x here;
+        MayBring-next v.pool was (joined true []) segments to-have k q pieces s (AreHad-to v.pool was (joined true []) segments to-have k q pieces (omega (arith, within)) brings) within at x here;
   }
 
   module _ (q : Blocks) (pieces : List Piece) (brings : BringsTo v.pool (pieces_of was) segments (length segments) q pieces) where
-    abbrev now : StoredTenant
-    now = grown was (final_named r.upload) pieces
+    abbrev now : Bool → StoredTenant
+    now boxed = grown was (joined boxed pieces) pieces
 
-    had : AreHad v.pool was (final_named r.upload) segments (length segments) q pieces
-    had = AreHad-to v.pool was (final_named r.upload) segments to-have (length segments) q pieces (omega arith) brings
+    had-as : (boxed : Bool) → AreHad v.pool was (joined boxed pieces) segments (length segments) q pieces
+    had-as boxed = AreHad-to v.pool was (joined boxed pieces) segments to-have (length segments) q pieces (omega arith) brings
+
+    had : AreHad v.pool was (joined true pieces) segments (length segments) q pieces
+    had = had-as true
 
     -- the blocks of what they bring were taken
     pub back-used : free_in q + brought_in v.pool.block_size segments ≡ free_in v.pool
@@ -123,14 +130,14 @@ module _ (v : Inside) (t : ℕ) (old : KeptTenant) (r : ReadyBack) (kept : IsKep
         one ∙ sym had.same
 
     reads-own : ReadsWhole q pieces
-    reads-own x c = had.grows.reads x (own-grown was (final_named r.upload) pieces x c)
+    reads-own x c = had.grows.reads x (own-grown was (joined true pieces) pieces x c)
 
     pub back-len : unwrap_or r.upload.declared 0 ≡ pieces_len pieces
     back-len = ap (λ (n : Option ℕ). unwrap_or n 0) may.whole ∙ ap sent_len sent-is ∙ sent-lens q pieces reads-own
 
     -- the upload is the one that is put back
-    upload-is : (sent : List (ℕ × List ℕ)) → sent_back (sent_in (part_at (store_of v) t).uploads) segments ≡ Some sent → upload_of q (final_of (final_named r.upload) pieces) ≡ upload_back r.upload sent
-    upload-is sent is =
+    upload-is : (boxed : Bool) (sent : List (ℕ × List ℕ)) → sent_back (sent_in (part_at (store_of v) t).uploads) segments ≡ Some sent → upload_of q (joined boxed pieces) ≡ upload_back r.upload sent
+    upload-is boxed sent is =
         let both : Some sent ≡ Some may.sent = sym is ∙ may.had in
         let one : sent ≡ sent_pieces q pieces = (let same : sent ≡ may.sent = (cc) in same ∙ sent-is) in
         let declared : Some (pieces_len pieces) ≡ r.upload.declared = ap Some (sym (ap sent_len sent-is ∙ sent-lens q pieces reads-own)) ∙ sym may.whole in
@@ -148,9 +155,9 @@ module _ (v : Inside) (t : ℕ) (old : KeptTenant) (r : ReadyBack) (kept : IsKep
         ∙ ap₂ (λ (origins : List ℕ) (contents : List (List ℕ)). made r.upload.kind r.upload.declared None origins contents) (sym (sent-firsts q pieces)) (sym (sent-seconds q pieces))
         ∙ ap₂ (λ (expires : Option ℕ) (sent : List (ℕ × List ℕ)). made r.upload.kind r.upload.declared expires (map {A = ℕ × List ℕ} {B = ℕ} (λ s. s.0) sent) (map {A = ℕ × List ℕ} {B = List ℕ} (λ s. s.1) sent)) (sym may.expires) (sym one)
 
-    module _ (changed : KeptTenant) (taken : ℕ) (free : taken + free_in q ≡ free_in v.pool) (quota : changed.quota ≡ old.quota) (next : changed.next ≡ old.next + 1) (charge : changed.charge ≡ old.charge + taken) (uploads : changed.uploads.items ≡ old.uploads.items ++ record { id = old.next; kept = final_of (final_named r.upload) pieces } ∷ [])
+    module _ (boxed : Bool) (changed : KeptTenant) (taken : ℕ) (free : taken + free_in q ≡ free_in v.pool) (quota : changed.quota ≡ old.quota) (next : changed.next ≡ old.next + 1) (charge : changed.charge ≡ old.charge + taken) (uploads : changed.uploads.items ≡ old.uploads.items ++ record { id = old.next; kept = joined boxed pieces } ∷ [])
         (room : HasUploadRoom v.room changed) where
-      stored_tenant : stored_tenant_of changed ≡ now
+      stored_tenant : stored_tenant_of changed ≡ now boxed
       stored_tenant = rw (quota, next, uploads) refl
 
       there : IsStoredTenant (store_of v).stored_tenants t was
@@ -159,21 +166,21 @@ module _ (v : Inside) (t : ℕ) (old : KeptTenant) (r : ReadyBack) (kept : IsKep
       -- the blocks of others keep their bytes
       elsewhere : (k : ℕ) (other : StoredTenant) → IsStoredTenant (store_of v).stored_tenants k other → k ≢ t → KeepBytes v.pool q (λ b. places_on b other)
       elsewhere k other is differs b some =
-          had.grows.bytes b (omega (arith, some, places_on-held v.pool other (IsStoredOn-stored_tenant v.pool (store_of v).stored_tenants k other kept.stored is) b))
+          (had-as boxed).grows.bytes b (omega (arith, some, places_on-held v.pool other (IsStoredOn-stored_tenant v.pool (store_of v).stored_tenants k other kept.stored is) b))
 
-      pays : charge_on v.pool.block_size now ≡ charge_on v.pool.block_size was + taken
-      pays = more _ _ _ _ _ (charge-changed v.pool (store_of v).stored_tenants t was q now kept.stored there had.grows.changes) free where
+      pays : charge_on v.pool.block_size (now boxed) ≡ charge_on v.pool.block_size was + taken
+      pays = more _ _ _ _ _ (charge-changed v.pool (store_of v).stored_tenants t was q (now boxed) kept.stored there (had-as boxed).grows.changes) free where
         more : (f g a b n : ℕ) → g + b ≡ f + a → n + g ≡ f → b ≡ a + n
         more f g a b n change free = omega arith
 
       pub IsKept-back : IsKept (with_stored_tenant v q t changed)
       IsKept-back =
-          IsKept-with_stored_tenant v q t old changed kept part had.grows.changes.sizes
-          (subst (λ (s : StoredTenant). HoldsPieces q (set (store_of v).stored_tenants t s)) (sym stored_tenant) (HoldsPieces-changed v.pool (store_of v).stored_tenants t was q now kept.stored there had.grows.changes))
+          IsKept-with_stored_tenant v q t old changed kept part (had-as boxed).grows.changes.sizes
+          (subst (λ (s : StoredTenant). HoldsPieces q (set (store_of v).stored_tenants t s)) (sym stored_tenant) (HoldsPieces-changed v.pool (store_of v).stored_tenants t was q (now boxed) kept.stored there (had-as boxed).grows.changes))
           elsewhere
-          (subst (λ (s : StoredTenant). All HasOwnPiece s.uploads) (sym stored_tenant) (All-push HasOwnPiece was.uploads (record { id = old.next; kept = final_of (final_named r.upload) pieces }) (own-part v t old kept part) (HasOwnPiece-final (record { id = old.next; kept = final_of (final_named r.upload) pieces }) refl)))
-          (subst (λ (s : StoredTenant). ReadsWhole q (pieces_of s)) (sym stored_tenant) had.grows.reads)
-          (subst AreInOrder (sym stored_tenant) (AreInOrder-push was (final_of (final_named r.upload) pieces) (λ x c. let given = (had.grows.changes.pieces.each x (own-grown was (final_named r.upload) pieces x c)).given in omega (arith, given)) (order-part v t old kept part)))
+          (subst (λ (s : StoredTenant). All HasOwnPiece s.uploads) (sym stored_tenant) (All-push HasOwnPiece was.uploads (record { id = old.next; kept = joined boxed pieces }) (own-part v t old kept part) (HasOwnPiece-final (record { id = old.next; kept = joined boxed pieces }) refl)))
+          (subst (λ (s : StoredTenant). ReadsWhole q (pieces_of s)) (sym stored_tenant) (had-as boxed).grows.reads)
+          (subst AreInOrder (sym stored_tenant) (AreInOrder-push was (joined boxed pieces) (λ x c. let given = ((had-as boxed).grows.changes.pieces.each x (own-grown was (joined boxed pieces) pieces x c)).given in omega (arith, given)) (order-part v t old kept part)))
           (charge ∙ ap (λ (n : ℕ). n + taken) (charge-part v t old kept part) ∙ sym pays ∙ ap (charge_on v.pool.block_size) (sym stored_tenant))
           room
 
@@ -183,5 +190,5 @@ module _ (v : Inside) (t : ℕ) (old : KeptTenant) (r : ReadyBack) (kept : IsKep
           plain_in-with_stored_tenant v q t old changed part elsewhere
           ∙ ap (λ (s : StoredTenant). set (plain_in (store_of v)) t (part_of q s)) stored_tenant
           ∙ ap (set (plain_in (store_of v)) t)
-          (part-with_new v.pool q was (final_of (final_named r.upload) pieces) (λ b some. had.grows.bytes b (omega (arith, some, places_on-held v.pool was to-have.on b)))
-          ∙ ap₂ (λ (part : TenantBook) (u : Upload). with_new part u) (ap (part_of v.pool) (sym (stored_tenant_at-part v t old part))) (upload-is sent is))
+          (part-with_new v.pool q was (joined boxed pieces) (λ b some. (had-as boxed).grows.bytes b (omega (arith, some, places_on-held v.pool was to-have.on b)))
+          ∙ ap₂ (λ (part : TenantBook) (u : Upload). with_new part u) (ap (part_of v.pool) (sym (stored_tenant_at-part v t old part))) (upload-is boxed sent is))

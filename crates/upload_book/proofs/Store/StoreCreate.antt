@@ -1,6 +1,6 @@
 -- The store where an upload is created with its first bytes: as one without bytes is pushed, and then these are put.
 use Rattle.std.proofs.Common.{◌≡◌, ◌≢◌, ℕ, ◌+◌, ◌<◌, Bool, true, false, List, [], ◌∷◌, ◌++◌, map, length, get_or, set, Option, refl, sym, ap, ap₂, ◌∙◌, subst, arith}
-use Rattle.std.specs.List.{Contains, remove}
+use Rattle.std.specs.List.{All, Contains, remove}
 use Rattle.std.specs.Vec.{with_item}
 use Rattle.std.proofs.Math.ListN.{length-map, length-append, get_or-map}
 use Rattle.std.proofs.lemmas.List.{set-set, get_or-set_same}
@@ -28,7 +28,7 @@ use Rattle.upload_book.proofs.Charge.PriceLemmas.{blocks_between-adds, blocks_fo
 use Rattle.upload_book.proofs.Store.PutLemmas.{IsAlone}
 use Rattle.upload_book.proofs.Store.StoredTenants.{IsStoredOn-stored_tenant}
 use Rattle.upload_book.proofs.Store.StoreAppend.{PutsIn, IsPutIn, IsKept-put, plain-put, charge-put}
-use Rattle.upload_book.proofs.Store.StoreLemmas.{with_stored_tenant, IsPart, IsStoredTenant-part, room-changed, stored_tenant_at-part, with_stored_tenant-part}
+use Rattle.upload_book.proofs.Store.StoreLemmas.{with_stored_tenant, IsPart, IsKind, IsStoredTenant-part, room-changed, stored_tenant_at-part, with_stored_tenant-part}
 use Rattle.upload_book.proofs.Store.StoreSteps.{IsPushed, IsKept-pushed, plain-pushed, charge-pushed}
 
 -- a list without the element at its end
@@ -52,8 +52,8 @@ no_parts true origins = refl
 no_parts false origins = refl
 
 -- with bytes at its end it is the one that is created with them
-created-with_bytes : (p : Blocks) (new : NewUpload) (id : ℕ) (bytes : List ℕ) (expires : Option ℕ) → with_bytes (upload_of p (new_stored new id no_chain expires)) bytes new.length expires ≡ upload_from new bytes expires
-created-with_bytes p new id bytes expires = ap (λ (parts : List ℕ). record (upload_from new bytes expires) { parts = parts }) (no_parts new.partial (id ∷ []))
+created-with_bytes : (p : Blocks) (new : NewUpload) (id : ℕ) (bytes : List ℕ) (expires : Option ℕ) (boxed : Bool) → with_bytes (upload_of p (new_stored new id no_chain expires boxed)) bytes new.length expires ≡ upload_from new bytes expires
+created-with_bytes p new id bytes expires boxed = ap (λ (parts : List ℕ). record (upload_from new bytes expires) { parts = parts }) (no_parts new.partial (id ∷ []))
 
 -- a part with another upload at its end
 with_new-changed : (part : TenantBook) (i : ℕ) (before after : Upload) → i ≡ length part.uploads → with_upload (with_new part before) i (record { id = part.next; kept = after }) ≡ with_new part after
@@ -77,7 +77,8 @@ pub record IsMade (v : Inside) (t : ℕ) (old changed : KeptTenant) (new : NewUp
   pub quota : changed.quota ≡ old.quota
   pub next : changed.next ≡ old.next + 1
   pub charge : changed.charge ≡ old.charge + taken
-  pub uploads : changed.uploads.items ≡ old.uploads.items ++ record { id = old.next; kept = new_stored new old.next y expires } ∷ []
+  pub boxed : Bool
+  pub uploads : changed.uploads.items ≡ old.uploads.items ++ record { id = old.next; kept = new_stored new old.next y expires boxed } ∷ []
   pub room : HasUploadRoom v.room changed
 
 module _ (v : Inside) (t : ℕ) (old changed : KeptTenant) (new : NewUpload) (bytes : List ℕ) (q : Blocks) (y : Chain) (expires : Option ℕ) (taken : ℕ) (kept : IsKept v) (is : IsMade v t old changed new bytes q y expires taken) where
@@ -86,10 +87,10 @@ module _ (v : Inside) (t : ℕ) (old changed : KeptTenant) (new : NewUpload) (by
 
   -- the upload before its bytes came
   abbrev bare : Entry StoredUpload
-  bare = record { id = old.next; kept = new_stored new old.next no_chain expires }
+  bare = record { id = old.next; kept = new_stored new old.next no_chain expires is.boxed }
 
   abbrev after : Entry StoredUpload
-  after = record { id = old.next; kept = new_stored new old.next y expires }
+  after = record { id = old.next; kept = new_stored new old.next y expires is.boxed }
 
   -- the part with it, and the store
   abbrev pushed : KeptTenant
@@ -101,6 +102,10 @@ module _ (v : Inside) (t : ℕ) (old changed : KeptTenant) (new : NewUpload) (by
   pushed-uploads : pushed.uploads.items ≡ old.uploads.items ++ bare ∷ []
   pushed-uploads = ap (λ (items : List (Entry StoredUpload)). set items place bare) is.uploads ∙ set-append_seam old.uploads.items after [] bare
 
+  kind : IsKind v.room bare
+  kind = ap (λ (e : Entry StoredUpload). e.kept.boxed) (sym (get_or-last old.uploads.items after after))
+      ∙ subst (All (IsKind v.room)) is.uploads is.room.boxed place after (omega (arith, length-append old.uploads.items (after ∷ [])))
+
   is_pushed : IsPushed v t old pushed bare
   is_pushed = record {
     part = is.part;
@@ -110,7 +115,7 @@ module _ (v : Inside) (t : ℕ) (old changed : KeptTenant) (new : NewUpload) (by
     next = is.next;
     charge = refl;
     uploads = pushed-uploads;
-    room = room-changed v.room changed place old.charge bare is.room;
+    room = room-changed v.room changed place old.charge bare kind is.room;
   }
 
   middle-part : IsPart middle t pushed
@@ -222,7 +227,7 @@ module _ (v : Inside) (t : ℕ) (old changed : KeptTenant) (new : NewUpload) (by
       (ap (λ part. put part old.next (with_bytes (upload_of v.pool bare.kept) bytes new.length expires)) middle-part_at
       ∙ ap (λ id. put bare_part id (with_bytes (upload_of v.pool bare.kept) bytes new.length expires)) next_id
       ∙ with_new-changed part place (upload_of v.pool bare.kept) (with_bytes (upload_of v.pool bare.kept) bytes new.length expires) at_end
-      ∙ ap (with_new part) (created-with_bytes v.pool new old.next bytes expires))
+      ∙ ap (with_new part) (created-with_bytes v.pool new old.next bytes expires is.boxed))
 
   -- the tenant pays for the blocks that were taken
   pub charge-made : charge_with v.pool.block_size (part_at (store_of (with_stored_tenant v q t changed)) t) ≡ charge_with v.pool.block_size part + taken

@@ -1,5 +1,5 @@
 -- The store where a final upload is joined of a tenant's partial ones.
-use Rattle.std.proofs.Common.{◌≡◌, ℕ, zero, suc, ◌+◌, ◌<◌, ◌≤◌, List, [], ◌∷◌, ◌++◌, map, length, get_or, set, take, Option, None, Some, refl, sym, ap, ap₂, ◌∙◌, subst, inl, inr, arith}
+use Rattle.std.proofs.Common.{◌≡◌, ℕ, zero, suc, ◌+◌, ◌<◌, ◌≤◌, Bool, List, [], ◌∷◌, ◌++◌, map, length, get_or, set, take, Option, None, Some, refl, sym, ap, ap₂, ◌∙◌, subst, inl, inr, arith}
 use Rattle.std.specs.List.{All, Contains, flat_map, sum_by}
 use Rattle.std.proofs.Math.ListN.{length-map}
 use Rattle.std.proofs.lemmas.List.{get_or-map, get_or_push}
@@ -138,7 +138,8 @@ pub record IsJoined (v : Inside) (old changed : KeptTenant) (new : NewFinal) (pi
   pub quota : changed.quota ≡ old.quota
   pub next : changed.next ≡ old.next + 1
   pub charge : changed.charge ≡ old.charge
-  pub uploads : changed.uploads.items ≡ old.uploads.items ++ record { id = old.next; kept = final_of new pieces } ∷ []
+  pub boxed : Bool
+  pub uploads : changed.uploads.items ≡ old.uploads.items ++ record { id = old.next; kept = final_of boxed new pieces } ∷ []
   pub room : HasUploadRoom v.room changed
 
 -- the pieces are copies of the tenant's
@@ -171,7 +172,7 @@ joined-len v t old named now pieces kept part same =
 
 module _ (v : Inside) (t : ℕ) (old changed : KeptTenant) (new : NewFinal) (now : ℕ) (pieces : List Piece) (q : Blocks) (kept : IsKept v) (joins : JoinsIn v t old new now pieces q) (is : IsJoined v old changed new pieces) where
   abbrev final : StoredUpload
-  final = final_of new pieces
+  final = final_of is.boxed new pieces
 
   stored_tenant : stored_tenant_of changed ≡ with_new (stored_tenant_of old) final
   stored_tenant = rw (is.quota, is.next, is.uploads) refl

@@ -1,11 +1,11 @@
 -- A store in which one tenant's part changed, as it is kept.
-use Rattle.std.proofs.Common.{◌≡◌, ◌≢◌, ℕ, ◌+◌, ◌<◌, List, [], ◌∷◌, map, length, get_or, set, vec_len, Result, Ok, Err, OnErr, refl, sym, ap, ◌∙◌, ap₂, subst, inl, inr, arith}
-use Rattle.std.specs.List.{All, sum_by}
+use Rattle.std.proofs.Common.{◌≡◌, ◌≢◌, ℕ, ◌+◌, ◌<◌, ◌≤◌, Bool, true, not, List, [], ◌∷◌, ◌++◌, map, length, get_or, set, vec_capacity, vec_len, Option, None, Some, is_some, Result, Ok, Err, OnErr, refl, sym, ap, ◌∙◌, ap₂, subst, inl, inr, arith}
+use Rattle.std.specs.List.{All, remove, sum_by}
 use Rattle.std.specs.Vec.{with_item}
 use Rattle.std.proofs.Math.ListN.{length-map, length-set}
-use Rattle.std.proofs.lemmas.Bool.Decides.{eqb_tells}
+use Rattle.std.proofs.lemmas.Bool.Decides.{eqb_tells, nat_tests}
 use Rattle.std.proofs.lemmas.List.{map-set, set-get_or, get_or-map, get_or-set_same, get_or-set_other, get_or_default}
-use Rattle.std.proofs.lemmas.List.Elements.{All-set, All-head, All-tail}
+use Rattle.std.proofs.lemmas.List.Elements.{All-get_or, All-set, All-head, All-push, All-tail}
 use Rattle.std.proofs.lemmas.List.Sums.{sum_by-cons}
 use Rattle.block_pool.specs.Blocks.{Blocks}
 use Rattle.block_bodies.specs.Changes.{SameSizes}
@@ -18,12 +18,14 @@ use Rattle.upload_book.specs.BlockStore.{BlockStore, plain_in, part_at, stored_t
 use Rattle.upload_book.specs.Stored.{StoredTenant, StoredUpload, part_of, upload_of, pieces_of, places_on, charge_on, HoldsPieces}
 use Rattle.upload_book.specs.inside.Ids.{AreBelow}
 use Rattle.upload_book.specs.inside.Pieces.{AreBodies, HasOwnPiece, ReadsWhole}
+use Rattle.upload_book.specs.inside.Texts.{boxes_in, is_reserved, IsTextsFor}
+use Rattle.upload_book.specs.declared.texts.SharedTexts.{SharedTexts}
 use Rattle.upload_book.specs.TenantBook.{TenantBook, Entry, opening_part}
 use Rattle.upload_book.specs.Upload.{Upload}
 use Rattle.upload_book.proofs.Charge.PlainCharge.{charge-plain}
 use Rattle.upload_book.proofs.Store.PlainStoredTenants.{KeepBytes, content-same, parts-changed}
 use Rattle.upload_book.proofs.Charge.InUse.{places-within}
-use Rattle.upload_book.proofs.Store.Pieces.{IsEntry, Contains-entry}
+use Rattle.upload_book.proofs.Store.Pieces.{IsEntry, All-remove, Contains-entry}
 use Rattle.upload_book.proofs.Store.GoneLemmas.{piece-body}
 use Rattle.upload_book.proofs.Store.StoredTenants.{IsStoredTenant, IsStoredOn-stored_tenant}
 
@@ -91,16 +93,82 @@ charge_with-part v t old kept is =
 pub room-part : (v : Inside) (t : ℕ) (old : KeptTenant) → IsKept v → IsPart v t old → HasUploadRoom v.room old
 room-part v t old kept is = subst (HasUploadRoom v.room) (sym is.read) (kept.room t old is.within)
 
--- It has as much where an upload changes, or what the tenant pays.
-pub room-changed : (room : ℕ) (old : KeptTenant) (i charge : ℕ) (e : Entry StoredUpload) → HasUploadRoom room old → HasUploadRoom room (record old { charge = charge; uploads = with_item old.uploads i e })
-room-changed room old i charge e has = record { uploads = has.uploads; spare = has.spare; boxes = has.boxes }
+-- the texts of an upload lie in a box, where there are boxes
+abbrev pub IsKind : ℕ → Entry StoredUpload → Type 0
+IsKind room e = e.kept.boxed ≡ is_reserved room
 
--- Where it may have one more upload, a box is spare.
-pub spare-some : (v : Inside) (s : BlockStore) (t : ℕ) (old : KeptTenant) → IsKept v → store_of v ≡ s → IsPart v t old → length (stored_tenant_at s t).uploads < s.room → 0 < vec_len old.spare
-spare-some v s t old kept is part less =
+-- each of the part is so
+pub kind-part : (v : Inside) (t i : ℕ) (old : KeptTenant) (e : Entry StoredUpload) → IsKept v → IsPart v t old → IsEntry (stored_tenant_of old) i e → IsKind v.room e
+kind-part v t i old e kept part entry =
+    subst (IsKind v.room) (sym entry.read) (All-get_or (IsKind v.room) old.uploads.items i e entry.within (room-part v t old kept part).boxed)
+
+-- It has as much room where an upload changes, or what the tenant pays,
+pub room-changed : (room : ℕ) (old : KeptTenant) (i charge : ℕ) (e : Entry StoredUpload) → IsKind room e → HasUploadRoom room old → HasUploadRoom room (record old { charge = charge; uploads = with_item old.uploads i e })
+room-changed room old i charge e kind has = record {
+  uploads = has.uploads;
+  boxed = All-set (IsKind room) old.uploads.items i e kind has.boxed;
+  spare = has.spare;
+  boxes = has.boxes;
+}
+
+-- its texts lying where they lay.
+pub room-kept : (v : Inside) (t i charge : ℕ) (old : KeptTenant) (before e : Entry StoredUpload) → IsKept v → IsPart v t old → IsEntry (stored_tenant_of old) i before → e.kept.boxed ≡ before.kept.boxed
+    → HasUploadRoom v.room (record old { charge = charge; uploads = with_item old.uploads i e })
+room-kept v t i charge old before e kept part entry same =
+    room-changed v.room old i charge e (same ∙ kind-part v t i old before kept part entry) (room-part v t old kept part)
+
+-- memory is taken for texts where there are no boxes
+taken-kind : (room : ℕ) (taken : Option SharedTexts) (metadata concat : List ℕ) → IsTextsFor room taken metadata concat → not (is_some taken) ≡ is_reserved room
+taken-kind room None metadata concat few = grind (arith, nat_tests)
+taken-kind room (Some t) metadata concat is = (let many = is.0 in grind (arith, nat_tests))
+
+no_box : (room : ℕ) (boxed : Bool) → boxed ≡ is_reserved room → room ≤ 64 → boxes_in boxed ≡ 1
+no_box room boxed kind few = let held : boxed ≡ true = kind ∙ reserved few in ap boxes_in held
+  where
+    reserved : room ≤ 64 → is_reserved room ≡ true
+    reserved few = grind (arith, nat_tests)
+
+-- A new upload is added, whose texts are put into a spare box, or into memory that was taken for them.
+pub room-more : (room : ℕ) (old changed : KeptTenant) (e : Entry StoredUpload) (taken : Option SharedTexts) (metadata concat : List ℕ) (boxed : Bool) → HasUploadRoom room old → IsTextsFor room taken metadata concat → boxed ≡ not (is_some taken) → e.kept.boxed ≡ boxed
+    → changed.uploads.items ≡ old.uploads.items ++ e ∷ [] → vec_len changed.uploads ≡ vec_len old.uploads + 1 → vec_capacity changed.uploads ≡ vec_capacity old.uploads
+    → vec_len changed.spare + boxes_in boxed ≡ vec_len old.spare → vec_capacity changed.spare ≡ vec_capacity old.spare → HasUploadRoom room changed
+room-more room old changed e taken metadata concat boxed has texts kind same items len capacity spare spare_capacity =
+    let is : boxed ≡ is_reserved room = kind ∙ taken-kind room taken metadata concat texts in
+    record {
+      uploads = omega (arith, has.uploads, capacity);
+      boxed = subst (All (IsKind room)) (sym items) (All-push (IsKind room) old.uploads.items e has.boxed (same ∙ is));
+      spare = λ few. omega (arith, has.spare few, spare_capacity);
+      boxes = λ few. omega (arith, has.boxes few, len, spare, no_box room boxed is few);
+    }
+
+-- One ends, and its box, if it has one, is spare again.
+pub room-fewer : (room i : ℕ) (old changed : KeptTenant) (boxed : Bool) → HasUploadRoom room old → boxed ≡ is_reserved room → changed.uploads.items ≡ remove old.uploads.items i → vec_len changed.uploads + 1 ≡ vec_len old.uploads → vec_capacity changed.uploads ≡ vec_capacity old.uploads
+    → vec_len changed.spare ≡ vec_len old.spare + boxes_in boxed → vec_capacity changed.spare ≡ vec_capacity old.spare → HasUploadRoom room changed
+room-fewer room i old changed boxed has is items len capacity spare spare_capacity = record {
+  uploads = omega (arith, has.uploads, capacity);
+  boxed = subst (All (IsKind room)) (sym items) (All-remove (IsKind room) old.uploads.items i has.boxed);
+  spare = λ few. omega (arith, has.spare few, spare_capacity);
+  boxes = λ few. omega (arith, has.boxes few, len, spare, no_box room boxed is few);
+}
+
+-- There is room for it among the spare ones.
+pub box-fits : (room : ℕ) (old : KeptTenant) (boxed : Bool) (left : ℕ) → HasUploadRoom room old → boxed ≡ is_reserved room → left + 1 ≡ vec_len old.uploads → boxed ≡ true → vec_len old.spare < vec_capacity old.spare
+box-fits room old boxed left has is some held =
+    let few : room ≤ 64 = reserved (sym held ∙ is) in
+    omega (arith, has.spare few, has.boxes few, some)
+  where
+    reserved : true ≡ is_reserved room → room ≤ 64
+    reserved is = grind (arith, nat_tests)
+
+-- Where it may have one more upload, and no memory was taken for its texts, a box is spare.
+pub spare-some : (v : Inside) (s : BlockStore) (t : ℕ) (old : KeptTenant) (taken : Option SharedTexts) (metadata concat : List ℕ) → IsKept v → store_of v ≡ s → IsPart v t old → length (stored_tenant_at s t).uploads < s.room → IsTextsFor s.room taken metadata concat → taken ≡ None
+    → 0 < vec_len old.spare
+spare-some v s t old taken metadata concat kept is part less texts none =
     let room = room-part v t old kept part in
+    let few : s.room ≤ 64 = subst (λ (taken : Option SharedTexts). IsTextsFor s.room taken metadata concat) none texts in
+    let same_room : v.room ≡ s.room = ap (λ (s : BlockStore). s.room) is in
     let same : length (stored_tenant_at s t).uploads ≡ length old.uploads.items = ap (λ (s : BlockStore). length (stored_tenant_at s t).uploads) (sym is) ∙ ap (λ (stored_tenant : StoredTenant). length stored_tenant.uploads) (stored_tenant_at-part v t old part) in
-    omega (arith, less, same, room.boxes, old.uploads.ok.0, ap (λ (s : BlockStore). s.room) is)
+    omega (arith, less, same, room.boxes (omega (arith, few, same_room)), old.uploads.ok.0, same_room)
 
 -- the tenants' parts with one changed
 pub stored_tenants-with_stored_tenant : (v : Inside) (q : Blocks) (t : ℕ) (changed : KeptTenant) → (store_of (with_stored_tenant v q t changed)).stored_tenants ≡ set (store_of v).stored_tenants t (stored_tenant_of changed)

@@ -39,7 +39,7 @@ module _ (v : Inside) (t next : ℕ) (old : KeptTenant) (kept : IsKept v) (part 
       (reads-part v t old kept part)
       (AreInOrder-next (stored_tenant_of old) next more (order-part v t old kept part))
       (charge-part v t old kept part ∙ stays _ _ _ (charge-changed v.pool (store_of v).stored_tenants t (stored_tenant_of old) v.pool (stored_tenant_of (renumbered old next)) kept.stored (IsStoredTenant-part v t old part) change))
-      (let room = room-part v t old kept part in record { uploads = room.uploads; spare = room.spare; boxes = room.boxes })
+      (let room = room-part v t old kept part in record { uploads = room.uploads; boxed = room.boxed; spare = room.spare; boxes = room.boxes })
     where
       stays : (f a b : ℕ) → f + b ≡ f + a → a ≡ b
       stays f a b same = omega arith

@@ -1,9 +1,10 @@
 -- The store where the uploads that have expired end.
-use Rattle.std.proofs.Common.{◌≡◌, ℕ, zero, suc, ◌+◌, ◌-◌, ◌<◌, ◌≤◌, List, [], ◌∷◌, length, map, get_or, set, Some, refl, ap, sym, subst, ◌∙◌, arith}
+use Rattle.std.proofs.Common.{◌≡◌, ℕ, zero, suc, ◌+◌, ◌-◌, ◌<◌, ◌≤◌, List, [], ◌∷◌, All, length, map, get_or, set, Some, refl, ap, sym, subst, ◌∙◌, arith}
 use Rattle.std.specs.List.{flat_map, sum_by}
 use Rattle.std.specs.List.Sorted.{IsPermutation}
 use Rattle.std.specs.Prelude.{◌++◌, vec_capacity, vec_len}
-use Rattle.std.proofs.lemmas.List.Elements.{All-filter}
+use Rattle.std.proofs.lemmas.Bool.Decides.{nat_tests}
+use Rattle.std.proofs.lemmas.List.Elements.{All-filter, All-weaker}
 use Rattle.std.proofs.lemmas.List.Sums.{get_or-le-sum_by, sum_by-set}
 use Rattle.std.proofs.Math.ListN.{length-map}
 use Rattle.block_pool.specs.Blocks.{Blocks, free_in}
@@ -14,7 +15,7 @@ use Rattle.upload_book.specs.declared.stored_tenant.StoredTenant.{StoredTenant a
 use Rattle.upload_book.specs.inside.ChargeAfter.{left}
 use Rattle.upload_book.specs.inside.Kept.{stored_tenant_of, store_of, HasUploadRoom, IsKept}
 use Rattle.upload_book.specs.inside.Pieces.{HasOwnPiece}
-use Rattle.upload_book.specs.inside.Swept.{EndsExpired}
+use Rattle.upload_book.specs.inside.Swept.{EndsExpired, FindsRoom}
 use Rattle.upload_book.specs.Stored.{StoredTenant, StoredUpload, entry_of, part_of, pieces_of, placed_in}
 use Rattle.upload_book.specs.Sweep.{part_after_sweep}
 use Rattle.upload_book.specs.TenantBook.{Entry, TenantBook}
@@ -22,7 +23,7 @@ use Rattle.upload_book.proofs.Charge.StoreChargeAfter.{part-swept}
 use Rattle.upload_book.proofs.Lawful.LawfulFewer.{count_of}
 use Rattle.upload_book.proofs.Store.Pieces.{kept_pieces}
 use Rattle.upload_book.proofs.Store.StoreGone.{GivesUp, IsGivenUp, given-within}
-use Rattle.upload_book.proofs.Store.StoreLemmas.{IsPart, IsStoredTenant-part, order-part, own-part, room-part, stored_tenant_at-part}
+use Rattle.upload_book.proofs.Store.StoreLemmas.{IsKind, IsPart, IsStoredTenant-part, order-part, own-part, room-part, stored_tenant_at-part}
 use Rattle.upload_book.proofs.Store.StoredTenants.{IsStoredOn-stored_tenant, places_on-held}
 use Rattle.upload_book.proofs.Store.SweptLemmas.{AreInOrder-swept, Leaves-swept, stays, swept_stored_tenant}
 
@@ -33,8 +34,16 @@ IsHeld-part v t old kept is = record {
 }
 
 -- there is room for the boxes of all of its uploads
-pub boxes-fit : (v : Inside) (t : ℕ) (old : KeptTenant) → IsKept v → IsPart v t old → vec_len old.uploads + vec_len old.spare ≤ vec_capacity old.spare
-boxes-fit v t old kept is = let room = room-part v t old kept is in omega (arith, room.spare, room.boxes)
+pub boxes-fit : (v : Inside) (t : ℕ) (old : KeptTenant) → IsKept v → IsPart v t old → All (FindsRoom (vec_len old.uploads + vec_len old.spare) (vec_capacity old.spare)) old.uploads.items
+boxes-fit v t old kept is = All-weaker (IsKind v.room) (FindsRoom (vec_len old.uploads + vec_len old.spare) (vec_capacity old.spare)) fits old.uploads.items room.boxed
+  where
+    room : HasUploadRoom v.room old
+    room = room-part v t old kept is
+
+    fits : (e : Entry StoredUpload) → IsKind v.room e → FindsRoom (vec_len old.uploads + vec_len old.spare) (vec_capacity old.spare) e
+    fits e kind boxed =
+        let few : v.room ≤ 64 = grind (arith, nat_tests, sym kind ∙ boxed) in
+        omega (arith, room.spare few, room.boxes few)
 
 module _ (v : Inside) (t now : ℕ) (old swept : KeptTenant) (q : Blocks) (kept : IsKept v) (part : IsPart v t old) (ends : EndsExpired now v.pool old.uploads.items q swept.uploads.items) where
   -- those that have expired give up their pieces

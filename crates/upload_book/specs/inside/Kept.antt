@@ -7,6 +7,7 @@ use Rattle.upload_book.specs.BlockStore.{BlockStore}
 use Rattle.upload_book.specs.Stored.{StoredTenant, StoredUpload, HoldsPieces, pieces_of, part_kept, charge_on}
 use Rattle.upload_book.specs.inside.Ids.{AreBelow}
 use Rattle.upload_book.specs.inside.Pieces.{HasNoLaterPiece, HasOwnPiece, ReadsWhole}
+use Rattle.upload_book.specs.inside.Texts.{is_reserved}
 use Rattle.upload_book.specs.TenantBook.{Entry, visible_in}
 
 -- the tenant's part that is kept so
@@ -21,12 +22,13 @@ store_of s = record {
   room = s.room;
 }
 
--- There is room for so many uploads of a tenant, and there are as many boxes for texts: each upload has one, and the
--- others are spare. So no box is lost, and one is spare where an upload may be added.
+-- There is room for so many uploads of a tenant. Where they are at most 64, there are as many boxes for texts: each upload
+-- has one, and the others are spare. So no box is lost, and one is spare where an upload may be added.
 pub record HasUploadRoom (room : ℕ) (t : KeptTenant) : Type 0 where
   pub uploads : room ≤ vec_capacity t.uploads
-  pub spare : room ≤ vec_capacity t.spare
-  pub boxes : vec_len t.uploads + vec_len t.spare ≡ room
+  pub boxed : All (λ (e : Entry StoredUpload). e.kept.boxed ≡ is_reserved room) t.uploads.items
+  pub spare : room ≤ 64 → room ≤ vec_capacity t.spare
+  pub boxes : room ≤ 64 → vec_len t.uploads + vec_len t.spare ≡ room
 
 -- uploads stand by their ids, and none has a piece that was sent to a later one
 pub record AreInOrder (stored_tenant : StoredTenant) : Type 0 where

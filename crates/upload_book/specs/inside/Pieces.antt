@@ -1,5 +1,5 @@
 -- The pieces of an upload as they are kept.
-use Rattle.std.specs.Prelude.{◌≡◌, ◌≢◌, ◌≤◌, ℕ, List, [], ◌∷◌, Contains, flat_map, length, Option, Some, None}
+use Rattle.std.specs.Prelude.{◌≡◌, ◌≢◌, ◌≤◌, ℕ, Bool, List, [], ◌∷◌, Contains, flat_map, length, Option, Some, None}
 use Rattle.block_pool.specs.Blocks.{Blocks}
 use Rattle.block_bodies.specs.Bodies.{Chain, IsBodyOf, content_of}
 use Rattle.upload_book.specs.declared.head_row.Kind.TheVariants.{Final}
@@ -44,24 +44,26 @@ HasNoLaterPiece e = (x : Piece) → Contains e.kept.pieces x → x.origin ≤ e.
 abbrev pub ReadsWhole : Blocks → List Piece → Type 0
 ReadsWhole p pieces = (x : Piece) → Contains pieces x → length (content_of p x.chain) ≡ x.chain.len
 
--- a new upload with these bytes and this end, as it is kept under its id
-abbrev pub new_stored : NewUpload → ℕ → Chain → Option ℕ → StoredUpload
-new_stored new id chain expires = record {
+-- a new upload with these bytes and this end, as it is kept under its id, its texts in a box or not
+abbrev pub new_stored : NewUpload → ℕ → Chain → Option ℕ → Bool → StoredUpload
+new_stored new id chain expires boxed = record {
   kind = new_kind new.partial;
   declared = new.length;
   pieces = record { origin = id; chain = chain } ∷ [];
   metadata = new.metadata;
   concat = new.concat;
   expires = expires;
+  boxed = boxed;
 }
 
 -- a final upload of these pieces, as it is kept
-abbrev pub final_of : NewFinal → List Piece → StoredUpload
-final_of new pieces = record {
+abbrev pub final_of : Bool → NewFinal → List Piece → StoredUpload
+final_of boxed new pieces = record {
   kind = Final;
   declared = Some (pieces_len pieces);
   pieces = pieces;
   metadata = new.metadata;
   concat = new.concat;
   expires = None;
+  boxed = boxed;
 }

@@ -7,6 +7,7 @@ use Rattle.block_pool.specs.Blocks.{size_of}
 use Rattle.upload_book.specs.Charge.{charge_with}
 use Rattle.upload_book.specs.declared.ready.ReadyBack.{ReadyBack}
 use Rattle.upload_book.specs.inside.FinalBack.{AreRoomsFor, brought_in, sent_len}
+use Rattle.upload_book.specs.inside.Texts.{IsTextsFor}
 use Rattle.upload_book.specs.snapshot.Restore.{IsRestorable, sent_back, sent_in}
 use Rattle.upload_book.specs.snapshot.Restored.{RestoredSegment}
 use Rattle.upload_book.specs.declared.head_row.Kind.TheVariants.{Final}
@@ -86,3 +87,4 @@ pub record MayKeep (s : BlockStore) (t : ℕ) (r : ReadyBack) : Type 0 where
   pub rooms : AreRoomsFor s.pool.block_size (pieces_of (stored_tenant_at s t)) r.upload.segments r.bodies.items
   pub empty : r.pieces.items ≡ []
   pub listed : length r.upload.segments ≤ vec_capacity r.pieces
+  pub texts : IsTextsFor s.room r.texts r.upload.metadata r.upload.concat

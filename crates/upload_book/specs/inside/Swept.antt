@@ -1,5 +1,5 @@
 -- What a sweep does to a tenant's uploads, by how they are kept.
-use Rattle.std.specs.Prelude.{◌≡◌, ℕ, ◌-◌, List, ◌++◌, Some, flat_map}
+use Rattle.std.specs.Prelude.{◌≡◌, ℕ, ◌≤◌, ◌-◌, true, List, ◌++◌, Some, flat_map}
 use Rattle.std.specs.List.Sorted.{IsPermutation}
 use Rattle.block_pool.specs.Blocks.{Blocks, free_in}
 use Rattle.block_bodies.specs.Changes.{GivesBack}
@@ -13,3 +13,11 @@ pub record EndsExpired (now : ℕ) (p : Blocks) (before : List (Entry StoredUplo
   pub ended : List (Entry StoredUpload)
   pub others : IsPermutation before (after ++ ended)
   pub gives : GivesBack p (placed_in (flat_map (λ (e : Entry StoredUpload). e.kept.pieces) ended)) (free_in q - free_in p) q
+
+-- the texts of an upload lie in a box
+abbrev pub IsBoxed : Entry StoredUpload → Type 0
+IsBoxed e = e.kept.boxed ≡ true
+
+-- where they do, so many boxes have room in a list
+abbrev pub FindsRoom : ℕ → ℕ → Entry StoredUpload → Type 0
+FindsRoom boxes room e = IsBoxed e → boxes ≤ room

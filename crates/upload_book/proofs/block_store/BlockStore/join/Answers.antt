@@ -1,15 +1,18 @@
-use Rattle.std.proofs.Common.{◌+◌, List, [], ◌∷◌, ◌++◌, map, refl, sym, ap, ◌∙◌, subst, arith}
+use Rattle.std.proofs.Common.{◌+◌, List, [], ◌∷◌, ◌++◌, length, map, refl, sym, ap, ◌∙◌, subst, arith}
 use Rattle.std.proofs.Math.ListN.{length-map}
 use Rattle.upload_book.specs.Concat.{joined_len}
 use Rattle.upload_book.specs.declared.pieces.Piece.{Piece}
 use Rattle.upload_book.specs.declared.stored_tenant.StoredTenant.{StoredTenant as KeptTenant}
 use Rattle.upload_book.specs.BlockStore.{BlockStore, rows_at}
 use Rattle.upload_book.specs.inside.Places.{AreFew}
+use Rattle.upload_book.specs.NewFinal.{NewFinal}
 use Rattle.upload_book.specs.Stored.{StoredUpload}
 use Rattle.upload_book.specs.inside.Pieces.{as_piece}
+use Rattle.upload_book.specs.inside.Texts.{is_boxed}
 use Rattle.upload_book.specs.TenantBook.{Entry}
+use Rattle.upload_book.proofs.Lawful.TextLemmas.{final_concat-fits, kept_metadata-fits}
 use Rattle.upload_book.proofs.Store.StoreJoin.{JoinsIn, JoinsIn-held, IsJoined, joined-held, joined-len, listed-read, part-there, IsKept-joined, plain-joined, charge-joined, Joins-joined}
-use Rattle.upload_book.proofs.Store.StoreLemmas.{IsPart-read, room-part, spare-some}
+use Rattle.upload_book.proofs.Store.StoreLemmas.{IsPart-read, room-more, room-part, spare-some}
 use Rattle.upload_book.proofs.block_store.BlockStore.join.Goals as goal
 
 pub hold_each-requires-clause-held : goal.hold_each-requires-clause-held
@@ -21,11 +24,19 @@ hold_each-requires-clause-held c =
     joined-held v c.args.tenant found.0 c.args.ready.new.parts c.args.ready.now pieces c.self.invariant found.1 (subst (λ (s : BlockStore). AreFew s c.args.tenant) (sym c.self.view_is) c.requires.few) segments
     (omega (arith, c.requires.listed.few, c.requires.parts, length-map c.args.ready.unheld.items as_piece))
 
--- there is a box for the texts
-pub unwrap-texts-requires : goal.unwrap-texts-requires
-unwrap-texts-requires c =
+pub placed-texts-requires-clause-metadata : goal.placed-texts-requires-clause-metadata
+placed-texts-requires-clause-metadata c =
+    omega (arith, kept_metadata-fits _ c.requires.metadata, ap (λ (new : NewFinal). length new.metadata) c.new.view_is)
+
+pub placed-texts-requires-clause-concat : goal.placed-texts-requires-clause-concat
+placed-texts-requires-clause-concat c =
+    omega (arith, final_concat-fits _ c.requires.concat, ap (λ (new : NewFinal). length new.concat) c.new.view_is)
+
+-- there is a box for the texts, where no memory was taken for them
+pub placed-texts-requires-clause-spare : goal.placed-texts-requires-clause-spare
+placed-texts-requires-clause-spare c =
     let part = IsPart-read c.self.inside c.args.self.now c.args.tenant c.index_mut-stored_tenant.result.now c.self.view_is c.requires.tenant c.index_mut-stored_tenant.ensures.value in
-    c.pop.ensures.variant.1 (spare-some c.self.inside c.args.self.now c.args.tenant c.index_mut-stored_tenant.result.now c.self.invariant c.self.view_is part c.requires.room)
+    spare-some c.self.inside c.args.self.now c.args.tenant c.index_mut-stored_tenant.result.now c.args.ready.texts c.args.ready.new.metadata c.args.ready.new.concat c.self.invariant c.self.view_is part c.requires.room c.requires.texts
 
 pub joined-upload-requires-clause-len : goal.joined-upload-requires-clause-len
 joined-upload-requires-clause-len c =
@@ -47,7 +58,7 @@ after : goal.After-self-1 → KeptTenant
 after c = record (c.index_mut-stored_tenant.result.now) {
   next = c.index_mut-stored_tenant.result.now.next + 1;
   uploads = c.push_reserved.new.self;
-  spare = c.pop.new.self;
+  spare = c.placed-texts.new.spare;
 }
 
 joined : (c : goal.After-self-1) → IsJoined c.self.inside c.index_mut-stored_tenant.result.now (after c) c.args.ready.new c.hold_each.new.pieces.items
@@ -56,14 +67,12 @@ joined c = record {
   quota = refl;
   next = refl;
   charge = refl;
+  boxed = is_boxed c.placed-texts.result;
   uploads = c.push_reserved.ensures.items ∙ ap (λ (e : Entry StoredUpload). c.index_mut-stored_tenant.result.now.uploads.items ++ e ∷ []) c.joined-upload.ensures;
   room =
       let room = room-part c.self.inside c.args.tenant c.index_mut-stored_tenant.result.now c.self.invariant (joins c).part in
-      record {
-        uploads = omega (arith, room.uploads, c.push_reserved.ensures.capacity);
-        spare = omega (arith, room.spare, c.pop.ensures.capacity);
-        boxes = omega (arith, room.boxes, c.push_reserved.ensures.len, rw c.unwrap-texts.ensures at c.pop.ensures.len);
-      };
+      room-more c.self.inside.room c.index_mut-stored_tenant.result.now (after c) c.joined-upload.result c.args.ready.texts c.args.ready.new.metadata c.args.ready.new.concat (is_boxed c.placed-texts.result) room (rw (← c.self.view_is) at c.requires.texts) c.placed-texts.ensures.kind
+      (ap (λ (e : Entry StoredUpload). e.kept.boxed) c.joined-upload.ensures) c.push_reserved.ensures.items c.push_reserved.ensures.len c.push_reserved.ensures.capacity c.placed-texts.ensures.spare c.placed-texts.ensures.capacity;
 }
 
 pub invariant_of-self : goal.invariant_of-self

@@ -16,7 +16,7 @@ use Rattle.upload_book.specs.inside.Pieces.{own_chain}
 use Rattle.upload_book.specs.TenantBook.{TenantBook, Entry}
 use Rattle.upload_book.specs.Upload.{Upload, offset_of}
 use Rattle.upload_book.proofs.Store.StoreAppend.{PutsIn, IsPutIn, alone-read, body-read, last-read, needs-read, charge-few, IsKept-put, plain-put, charge-put}
-use Rattle.upload_book.proofs.Store.StoreLemmas.{IsPart, IsPart-read, IsEntry-read, own-kind, at-place, room-part, room-changed}
+use Rattle.upload_book.proofs.Store.StoreLemmas.{IsPart, IsPart-read, IsEntry-read, own-kind, at-place, room-kept}
 use Rattle.upload_book.proofs.block_store.BlockStore.put.Goals as goal
 
 pub put-taken-requires-clause-body : goal.put-taken-requires-clause-body
@@ -84,7 +84,7 @@ is_put c = record {
   next = refl;
   charge = refl;
   uploads = ap (set c.index_mut-stored_tenant.result.now.uploads.items c.args.place) (c.renew.ensures ∙ ap (λ e. with_head e c.args.declared c.args.expires) c.put-taken.ensures.upload);
-  room = room-changed c.self.inside.room c.index_mut-stored_tenant.result.now c.args.place _ c.renew.new.self (room-part c.self.inside c.args.tenant c.index_mut-stored_tenant.result.now c.self.invariant (puts c).part);
+  room = room-kept c.self.inside c.args.tenant c.args.place _ c.index_mut-stored_tenant.result.now c.index_mut-upload.result.now c.renew.new.self c.self.invariant (puts c).part (puts c).entry (ap (λ (e : Entry StoredUpload). e.kept.boxed) (c.renew.ensures ∙ ap (λ e. with_head e c.args.declared c.args.expires) c.put-taken.ensures.upload));
   more = c.put-taken.ensures.taken;
 }
 

@@ -10,13 +10,15 @@ use Rattle.upload_book.specs.inside.FinalBack.{BringsTo, MayBringEach, brought_i
 use Rattle.upload_book.specs.inside.Kept.{HasUploadRoom, IsKept, stored_tenant_of, store_of}
 use Rattle.upload_book.specs.inside.Pieces.{final_of}
 use Rattle.upload_book.specs.inside.Places.{MayKeep}
+use Rattle.upload_book.specs.inside.Texts.{is_boxed}
 use Rattle.upload_book.specs.NewFinal.{NewFinal}
 use Rattle.upload_book.specs.snapshot.Restored.{RestoredSegment, RestoredUpload}
 use Rattle.upload_book.specs.Stored.{StoredUpload, pieces_len, pieces_of}
 use Rattle.upload_book.specs.TenantBook.{Entry}
+use Rattle.upload_book.proofs.Lawful.TextLemmas.{concat-fits, kept_metadata-fits}
 use Rattle.upload_book.proofs.Store.StoreAppend.{charge-few}
 use Rattle.upload_book.proofs.Store.StoreBack.{IsKept-back, back-len, back-may, back-used, plain-back, sizes-back}
-use Rattle.upload_book.proofs.Store.StoreLemmas.{IsPart, IsPart-read, room-part, spare-some}
+use Rattle.upload_book.proofs.Store.StoreLemmas.{IsPart, IsPart-read, room-more, room-part, spare-some}
 use Rattle.upload_book.proofs.block_store.BlockStore.put_back.Goals as goal
 
 -- what was read where a final upload is put back
@@ -81,11 +83,19 @@ joined-upload-requires-clause-len c =
     record { kept = c.self.invariant; is = c.self.view_is; asked = c.requires; first = c.index.ensures; second = c.index.ensures; its = ap (λ (u : RestoredUpload). u.segments) c.upload.view_is; brings = c.bring_each.ensures } in
     c.unwrap_or-len.ensures ∙ len s c.upload.inside.declared (ap (λ (u : RestoredUpload). u.declared) c.upload.view_is)
 
--- there is a box for the texts
-pub unwrap-texts-requires : goal.unwrap-texts-requires
-unwrap-texts-requires c =
+pub placed-texts-requires-clause-metadata : goal.placed-texts-requires-clause-metadata
+placed-texts-requires-clause-metadata c =
+    omega (arith, kept_metadata-fits _ c.requires.form.metadata, ap (λ (u : RestoredUpload). length u.metadata) c.upload.view_is)
+
+pub placed-texts-requires-clause-concat : goal.placed-texts-requires-clause-concat
+placed-texts-requires-clause-concat c =
+    omega (arith, concat-fits _ _ c.requires.form.concat, ap (λ (u : RestoredUpload). length u.concat) c.upload.view_is)
+
+-- there is a box for the texts, where no memory was taken for them
+pub placed-texts-requires-clause-spare : goal.placed-texts-requires-clause-spare
+placed-texts-requires-clause-spare c =
     let part = IsPart-read c.self.inside c.args.self.now c.args.tenant c.index_mut-stored_tenant.result.now c.self.view_is c.requires.tenant c.index_mut-stored_tenant.ensures.value in
-    c.pop.ensures.variant.1 (spare-some c.self.inside c.args.self.now c.args.tenant c.index_mut-stored_tenant.result.now c.self.invariant c.self.view_is part c.requires.room)
+    spare-some c.self.inside c.args.self.now c.args.tenant c.index_mut-stored_tenant.result.now c.args.ready.texts c.args.ready.upload.metadata c.args.ready.upload.concat c.self.invariant c.self.view_is part c.requires.room c.requires.texts
 
 pub overflow_add-stored_tenant-2 : goal.overflow_add-stored_tenant-2
 overflow_add-stored_tenant-2 c =
@@ -99,7 +109,7 @@ after c = record (c.index_mut-stored_tenant.result.now) {
   next = c.index_mut-stored_tenant.result.now.next + 1;
   charge = c.index_mut-stored_tenant.result.now.charge + c.from-taken.result;
   uploads = c.push_reserved.new.self;
-  spare = c.pop.new.self;
+  spare = c.placed-texts.new.spare;
 }
 
 read : (c : goal.After-self-1) → IsRead c.self.inside c.args.self.now c.args.tenant c.index.result.now c.index_mut-stored_tenant.result.now c.args.ready c.upload.inside.segments.now c.bring_each.new.pool c.bring_each.new.pieces.items
@@ -109,32 +119,29 @@ free : (c : goal.After-self-1) → c.from-taken.result + free_in c.bring_each.ne
 free c = free_is (read c) c.from-taken.result (taken_is (read c) c.free-before.result c.free.result c.from-taken.result c.free-before.ensures c.free.ensures c.from-taken.ensures)
 
 -- it has one more,
-uploads : (c : goal.After-self-1) → c.push_reserved.new.self.items ≡ c.index_mut-stored_tenant.result.now.uploads.items ++ record { id = c.index_mut-stored_tenant.result.now.next; kept = final_of (final_named c.args.ready.upload) c.bring_each.new.pieces.items } ∷ []
+uploads : (c : goal.After-self-1) → c.push_reserved.new.self.items ≡ c.index_mut-stored_tenant.result.now.uploads.items ++ record { id = c.index_mut-stored_tenant.result.now.next; kept = final_of (is_boxed c.placed-texts.result) (final_named c.args.ready.upload) c.bring_each.new.pieces.items } ∷ []
 uploads c =
     let id = c.index_mut-stored_tenant.result.now.next in
     let pieces : List Piece = c.bring_each.new.pieces.items in
-    c.push_reserved.ensures.items ∙ ap (λ (e : Entry StoredUpload). c.index_mut-stored_tenant.result.now.uploads.items ++ e ∷ []) (c.joined-upload.ensures ∙ ap (λ (new : NewFinal). record { id = id; kept = final_of new pieces }) c.as_final.ensures)
+    c.push_reserved.ensures.items ∙ ap (λ (e : Entry StoredUpload). c.index_mut-stored_tenant.result.now.uploads.items ++ e ∷ []) (c.joined-upload.ensures ∙ ap (λ (new : NewFinal). record { id = id; kept = final_of (is_boxed c.placed-texts.result) new pieces }) c.as_final.ensures)
 
 -- and a spare box less
 room : (c : goal.After-self-1) → HasUploadRoom c.self.inside.room (after c)
 unfolding after
 room c =
     let had = room-part c.self.inside c.args.tenant c.index_mut-stored_tenant.result.now c.self.invariant (part (read c)) in
-    record {
-      uploads = omega (arith, had.uploads, c.push_reserved.ensures.capacity);
-      spare = omega (arith, had.spare, c.pop.ensures.capacity);
-      boxes = omega (arith, had.boxes, c.push_reserved.ensures.len, rw c.unwrap-texts.ensures at c.pop.ensures.len);
-    }
+    room-more c.self.inside.room c.index_mut-stored_tenant.result.now (after c) c.joined-upload.result c.args.ready.texts c.args.ready.upload.metadata c.args.ready.upload.concat (is_boxed c.placed-texts.result) had (rw (← c.self.view_is) at c.requires.texts) c.placed-texts.ensures.kind
+    (ap (λ (e : Entry StoredUpload). e.kept.boxed) c.joined-upload.ensures) c.push_reserved.ensures.items c.push_reserved.ensures.len c.push_reserved.ensures.capacity c.placed-texts.ensures.spare c.placed-texts.ensures.capacity
 
 pub invariant_of-self : goal.invariant_of-self
 unfolding after
 invariant_of-self c =
-    IsKept-back c.self.inside c.args.tenant c.index_mut-stored_tenant.result.now c.args.ready c.self.invariant (part (read c)) (may (read c)) c.bring_each.new.pool c.bring_each.new.pieces.items (had (read c)) (after c) c.from-taken.result (free c) refl refl refl (uploads c) (room c)
+    IsKept-back c.self.inside c.args.tenant c.index_mut-stored_tenant.result.now c.args.ready c.self.invariant (part (read c)) (may (read c)) c.bring_each.new.pool c.bring_each.new.pieces.items (had (read c)) (is_boxed c.placed-texts.result) (after c) c.from-taken.result (free c) refl refl refl (uploads c) (room c)
 
 pub returns-clause-plain : goal.returns-clause-plain
 unfolding after
 returns-clause-plain c =
-    rw (← c.self.view_is) (plain-back c.self.inside c.args.tenant c.index_mut-stored_tenant.result.now c.args.ready c.self.invariant (part (read c)) (may (read c)) c.bring_each.new.pool c.bring_each.new.pieces.items (had (read c)) (after c) c.from-taken.result (free c) refl refl refl (uploads c) (room c))
+    rw (← c.self.view_is) (plain-back c.self.inside c.args.tenant c.index_mut-stored_tenant.result.now c.args.ready c.self.invariant (part (read c)) (may (read c)) c.bring_each.new.pool c.bring_each.new.pieces.items (had (read c)) (is_boxed c.placed-texts.result) (after c) c.from-taken.result (free c) refl refl refl (uploads c) (room c))
 
 pub returns-clause-taken : goal.returns-clause-taken
 returns-clause-taken c =

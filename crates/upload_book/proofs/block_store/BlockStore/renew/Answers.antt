@@ -6,7 +6,7 @@ use Rattle.upload_book.specs.inside.Kept.{store_of}
 use Rattle.upload_book.specs.Stored.{StoredUpload}
 use Rattle.upload_book.specs.TenantBook.{TenantBook, Entry}
 use Rattle.upload_book.specs.Upload.{Upload}
-use Rattle.upload_book.proofs.Store.StoreLemmas.{IsPart-read, IsEntry-read, own-kind, at-place, room-part, room-changed}
+use Rattle.upload_book.proofs.Store.StoreLemmas.{IsPart-read, IsEntry-read, own-kind, at-place, room-kept}
 use Rattle.upload_book.proofs.Store.StoreRenew.{IsRenewed, IsKept-renewed, plain-renewed, charge-renewed}
 use Rattle.std.specs.Vec.{with_item}
 use Rattle.upload_book.proofs.block_store.BlockStore.renew.Goals as goal
@@ -28,7 +28,7 @@ renewed c =
       next = refl;
       charge = refl;
       uploads = ap (set c.index_mut-stored_tenant.result.now.uploads.items c.args.place) c.renew.ensures;
-      room = room-changed c.self.inside.room c.index_mut-stored_tenant.result.now c.args.place _ c.renew.new.self (room-part c.self.inside c.args.tenant c.index_mut-stored_tenant.result.now c.self.invariant part);
+      room = room-kept c.self.inside c.args.tenant c.args.place _ c.index_mut-stored_tenant.result.now c.index_mut.result.now c.renew.new.self c.self.invariant part entry (ap (λ (e : Entry StoredUpload). e.kept.boxed) c.renew.ensures);
     }
 
 pub invariant_of-self : goal.invariant_of-self

@@ -1,3 +1,5 @@
+use Rattle.upload_book.specs.Stored.{StoredUpload}
+use Rattle.upload_book.specs.TenantBook.{Entry}
 use Rattle.std.proofs.Common.{subst, sym, ◌≡◌, set, refl, ap, ◌∙◌, arith}
 use Rattle.std.proofs.lemmas.List.{set-get_or}
 use Rattle.std.specs.Vec.{with_item}
@@ -9,7 +11,7 @@ use Rattle.upload_book.specs.BlockStore.{upload_at}
 use Rattle.upload_book.specs.inside.Pieces.{own_chain}
 use Rattle.upload_book.specs.Upload.{offset_of}
 use Rattle.upload_book.proofs.Store.StoreAppend.{alone-read, body-read, needs-read, free-read}
-use Rattle.upload_book.proofs.Store.StoreLemmas.{OnErr-of, IsPart-read, IsEntry-read, own-kind, at-place, room-part, room-changed, store_of-same}
+use Rattle.upload_book.proofs.Store.StoreLemmas.{OnErr-of, IsPart-read, IsEntry-read, own-kind, at-place, room-kept, store_of-same}
 use Rattle.upload_book.proofs.Store.StoreReserve.{IsReserved, IsKept-reserved, chain-reserved, plain-reserved}
 use Rattle.upload_book.proofs.Store.StoreRenew.{IsRenewed, IsKept-renewed}
 use Rattle.upload_book.proofs.block_store.BlockStore.reserve.Goals.{In_ok-reserve}
@@ -51,7 +53,7 @@ stays c =
       next = refl;
       charge = refl;
       uploads = ap (set c.index_mut-stored_tenant.result.now.uploads.items c.args.place) c.in_err-reserve.ensures.unchanged;
-      room = room-changed c.self.inside.room c.index_mut-stored_tenant.result.now c.args.place _ c.reserve.new.self (room-part c.self.inside c.args.tenant c.index_mut-stored_tenant.result.now c.self.invariant part);
+      room = room-kept c.self.inside c.args.tenant c.args.place _ c.index_mut-stored_tenant.result.now c.index_mut-upload.result.now c.reserve.new.self c.self.invariant part entry (ap (λ (e : Entry StoredUpload). e.kept.boxed) c.in_err-reserve.ensures.unchanged);
     }
 
 pub invariant_of-self : goal.invariant_of-self
@@ -97,7 +99,7 @@ reserved c =
       next = refl;
       charge = refl;
       uploads = ap (set c.index_mut-stored_tenant.result.now.uploads.items c.args.place) c.in_ok-reserve.ensures.upload;
-      room = room-changed c.self.inside.room c.index_mut-stored_tenant.result.now c.args.place _ c.reserve.new.self (room-part c.self.inside c.args.tenant c.index_mut-stored_tenant.result.now c.self.invariant part);
+      room = room-kept c.self.inside c.args.tenant c.args.place _ c.index_mut-stored_tenant.result.now c.index_mut-upload.result.now c.reserve.new.self c.self.invariant part entry (ap (λ (e : Entry StoredUpload). e.kept.boxed) c.in_ok-reserve.ensures.upload);
     }
 
 pub invariant_of-self-2 : goal.invariant_of-self-2

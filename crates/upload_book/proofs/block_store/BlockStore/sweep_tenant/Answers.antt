@@ -64,7 +64,7 @@ given c =
     let room = c.sweep-ended.ensures.room_stays c.self.inside.room (room-part c.self.inside c.args.tenant c.index_mut-stored_tenant.result.now c.self.invariant (part c)) in
     IsGivenUp-swept c.self.inside c.args.tenant c.args.now c.index_mut-stored_tenant.result.now c.sweep-ended.new.self c.sweep-ended.new.pool c.self.invariant (part c) c.sweep-ended.ensures.ends (after c)
     c.sweep-ended.ensures.quota c.sweep-ended.ensures.next refl (omega (arith, c.sweep-ended.ensures.charge, c.from.ensures, c.free.ensures, c.free-before.ensures))
-    (record { uploads = room.uploads; spare = room.spare; boxes = room.boxes })
+    (record { uploads = room.uploads; boxed = room.boxed; spare = room.spare; boxes = room.boxes })
 
 pub invariant_of-self : goal.invariant_of-self
 unfolding after

@@ -4,6 +4,7 @@ use Rattle.upload_book.specs.contracts.book.Book.{the_view}
 use Rattle.upload_book.specs.declared.create.Created.{Created}
 use Rattle.upload_book.specs.declared.ready.ReadyFinal.{ReadyFinal}
 use Rattle.upload_book.specs.PlainBook.{tenant_book}
+use Rattle.upload_book.specs.inside.Texts.{IsTextsFor}
 use Rattle.upload_book.specs.Ready.{IsReadyForFinal}
 use Rattle.upload_book.specs.Concat.{joined_len}
 use Rattle.upload_book.specs.BlockStore.{part_at, rows_at}
@@ -62,6 +63,11 @@ join-requires-clause-len c =
     let ready = ready_as b c.args.self.now r c.self.view_is c.requires in
     let s = SeesParts-ready b r.tenant r.new r.now c.self.invariant ready.there in
     ready.len ∙ ap (λ t. joined_len (rows_at b.store t r.new.parts r.now)) (sym c.from-place.ensures)
+
+pub join-requires-clause-texts : goal.join-requires-clause-texts
+join-requires-clause-texts c =
+    let r = c.args.ready in
+    subst (λ (room : ℕ). IsTextsFor room r.texts r.new.metadata r.new.concat) (sym c.self.invariant.room) (ready_as (the_view c.self.inside) c.args.self.now r c.self.view_is c.requires).texts
 
 pub invariant_of-self : goal.invariant_of-self
 invariant_of-self c =

@@ -10,6 +10,7 @@ use Rattle.upload_book.specs.declared.settings.Numbers.{Numbers}
 use Rattle.upload_book.specs.inside.Back.{new_of}
 use Rattle.upload_book.specs.NewUpload.{NewUpload}
 use Rattle.upload_book.specs.PlainBook.{tenant_book}
+use Rattle.upload_book.specs.inside.Texts.{IsTextsFor}
 use Rattle.upload_book.specs.Ready.{IsReadyForOwn}
 use Rattle.upload_book.specs.snapshot.Restored.{RestoredUpload}
 use Rattle.upload_book.specs.BlockStore.{BlockStore, part_at, plain_in, stored_tenant_at}
@@ -54,6 +55,12 @@ module _ {b w : StoredBook} {r : ReadyOwn} {u : RestoredUpload} {place : ℕ} {r
 
   next_stored : (stored_tenant_at b.store place).next ≡ r.upload.id
   next_stored = ap (λ t. (part_at b.store t).next) s.at ∙ ap (λ (part : TenantBook). part.next) (sym (part-plain b r.tenant)) ∙ next
+
+  -- the texts were taken for it
+  texts_given : (room : ℕ) → room ≡ b.settings.numbers.uploads → IsTextsFor room r.texts new.metadata new.concat
+  texts_given room is =
+      subst (λ (n : NewUpload). IsTextsFor room r.texts n.metadata n.concat) (sym s.new_is)
+      (subst (λ (room : ℕ). IsTextsFor room r.texts r.upload.metadata r.upload.concat) (sym is) ready.texts)
 
   id_read : u.id ≡ r.upload.id
   id_read = ap (λ (u : RestoredUpload). u.id) s.upload
@@ -115,6 +122,12 @@ create-requires-clause-listed c =
     let s : IsRead (the_view c.self.inside) c.args.self.now c.args.ready (record { id = c.upload.inside.id; kind = c.upload.inside.kind; declared = c.upload.inside.declared; segments = c.upload.inside.segments.now; metadata = c.upload.inside.metadata.now; concat = c.upload.inside.concat.now; expires = c.upload.inside.expires }) c.from-place.result c.own_bytes-bytes.result.now c.as_new-new.result =
     record { kept = c.self.invariant; is = c.self.view_is; asked = c.requires; upload = c.upload.view_is; at = c.from-place.ensures; read_is = c.own_bytes-bytes.ensures; new_is = c.as_new-new.ensures } in
     rw (same s) ((ready s).room (bytes s) (own_read s).1)
+
+pub create-requires-clause-texts : goal.create-requires-clause-texts
+create-requires-clause-texts c =
+    let s : IsRead (the_view c.self.inside) c.args.self.now c.args.ready (record { id = c.upload.inside.id; kind = c.upload.inside.kind; declared = c.upload.inside.declared; segments = c.upload.inside.segments.now; metadata = c.upload.inside.metadata.now; concat = c.upload.inside.concat.now; expires = c.upload.inside.expires }) c.from-place.result c.own_bytes-bytes.result.now c.as_new-new.result =
+    record { kept = c.self.invariant; is = c.self.view_is; asked = c.requires; upload = c.upload.view_is; at = c.from-place.ensures; read_is = c.own_bytes-bytes.ensures; new_is = c.as_new-new.ensures } in
+    texts_given s (the_view c.self.inside).store.room c.self.invariant.room
 
 pub overflow_add-self : goal.overflow_add-self
 overflow_add-self c =

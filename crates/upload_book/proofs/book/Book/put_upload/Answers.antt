@@ -7,6 +7,7 @@ use Rattle.upload_book.specs.Expiries.{ends_of}
 use Rattle.upload_book.specs.FirstChunk.{FirstChunk, count_all_first}
 use Rattle.upload_book.specs.declared.settings.Numbers.{Numbers}
 use Rattle.upload_book.specs.PlainBook.{tenant_book}
+use Rattle.upload_book.specs.inside.Texts.{IsTextsFor}
 use Rattle.upload_book.specs.Ready.{IsReadyForUpload}
 use Rattle.upload_book.specs.BlockStore.{BlockStore, part_at, plain_in}
 use Rattle.upload_book.specs.TenantBook.{TenantBook, with_new}
@@ -64,6 +65,11 @@ create-requires-clause-listed c =
     let bytes : c.as_slice-bytes.result.now ≡ r.first.bytes = c.as_slice-bytes.ensures ∙ ap (λ (first : FirstChunk). first.bytes) c.first.view_is in
     let ready = ready_as b c.args.self.now r c.self.view_is c.requires in
     rw bytes (fewer_room b.store.pool r.body (length r.first.bytes) (count_all_first r.first) (omega arith) ready.room)
+
+pub create-requires-clause-texts : goal.create-requires-clause-texts
+create-requires-clause-texts c =
+    let r = c.args.ready in
+    subst (λ (room : ℕ). IsTextsFor room r.texts r.new.metadata r.new.concat) (sym c.self.invariant.room) (ready_as (the_view c.self.inside) c.args.self.now r c.self.view_is c.requires).texts
 
 -- the upload gets its end under the id that was read
 renewed_to : (b : StoredBook) (r : ReadyUpload) (place id : ℕ) → IsCreation b r.tenant r.new r.first → place ≡ r.tenant → id ≡ (part_at b.store place).next → IsReadyForUpload b r

@@ -6,6 +6,8 @@ use Rattle.upload_book.specs.Book.{IsBook, StoredBook, plain_of}
 use Rattle.upload_book.specs.contracts.book.Book.{the_view}
 use Rattle.upload_book.specs.declared.board_line.Account.{Account}
 use Rattle.upload_book.specs.declared.ready.ReadyOwn.{ReadyOwn}
+use Rattle.upload_book.specs.declared.texts.SharedTexts.{SharedTexts}
+use Rattle.upload_book.specs.inside.Texts.{IsTextsFor}
 use Rattle.upload_book.specs.declared.refusal.Refusal.{Refusal}
 use Rattle.upload_book.specs.declared.refusal.Refusal.TheVariants.{Memory}
 use Rattle.upload_book.specs.declared.settings.Numbers.{Numbers}
@@ -68,18 +70,19 @@ module _ {b w : StoredBook} {t place : ℕ} {numbers : Numbers} {account : Accou
   back none = record { kept = s.kept; within = there; own = s.own; form = s.form; its = its; none = sym told ∙ none }
 
   -- a book that is ready for it
-  ready_of : Chain → ReadyOwn
-  ready_of body = record { tenant = t; upload = r; body = body }
+  ready_of : Chain → Option SharedTexts → ReadyOwn
+  ready_of body texts = record { tenant = t; upload = r; body = body; texts = texts }
 
-  ready : (body : Chain) → found ≡ None → body ≡ record no_chain { room = body.room } → HasRoom b.store.pool body (length read) → IsReadyForOwn w (ready_of body)
+  ready : (body : Chain) (texts : Option SharedTexts) → IsTextsFor numbers.uploads texts r.metadata r.concat → found ≡ None → body ≡ record no_chain { room = body.room } → HasRoom b.store.pool body (length read) → IsReadyForOwn w (ready_of body texts)
   unfolding ready_of
-  ready body none empty room = subst (λ (b : StoredBook). IsReadyForOwn b (ready_of body)) s.is (record {
+  ready body texts taken none empty room = subst (λ (b : StoredBook). IsReadyForOwn b (ready_of body texts)) s.is (record {
     there = omega (arith, s.tenant, ap (λ (b : StoredBook). length b.settings.tenants) s.is);
     own = s.own;
     form = s.form;
     accepted = sym told ∙ none;
     empty = empty;
     room = λ (bytes : List ℕ) is. subst (λ (bytes : List ℕ). HasRoom b.store.pool body (length bytes)) (s.read_is bytes is) room;
+    texts = subst (λ (n : Numbers). IsTextsFor n.uploads texts r.metadata r.concat) s.numbers_read taken;
   })
 
 -- what was read
@@ -103,13 +106,19 @@ body_for-requires c =
     record { kept = c.self.invariant; is = c.self.view_is; tenant = c.requires.tenant_there; own = c.requires.own; form = c.requires.form; at = c.from-place.ensures; numbers_read = c.numbers-numbers.ensures.value; account_read = c.account-account.ensures; read_is = c.own_bytes-bytes.ensures; found_is = c.own_refusal.ensures } in
     record { blocks = rw (read_same s) (own-room_blocks b c.args.tenant c.args.upload (bytes s) (back s c.in_default.is)) }
 
-pub returns-in-Ok-clause-ready : goal.returns-in-Ok-clause-ready
+pub returns-in-Ok-texts_ahead-clause-ready : goal.returns-in-Ok-texts_ahead-clause-ready
 unfolding ready_of
-returns-in-Ok-clause-ready c =
+returns-in-Ok-texts_ahead-clause-ready c =
     let b = the_view c.self.inside in
     let s : IsRead b c.args.self.now c.args.tenant c.from-place.result c.numbers-numbers.result.now c.account-account.result c.args.upload c.own_bytes-bytes.result.now c.own_refusal.result =
     record { kept = c.self.invariant; is = c.self.view_is; tenant = c.requires.tenant_there; own = c.requires.own; form = c.requires.form; at = c.from-place.ensures; numbers_read = c.numbers-numbers.ensures.value; account_read = c.account-account.ensures; read_is = c.own_bytes-bytes.ensures; found_is = c.own_refusal.ensures } in
-    ready s c.in-Ok.body c.in_default.is c.in-Ok.ensures.empty c.in-Ok.ensures.listed
+    ready s c.in-Ok.body c.in-Ok-texts_ahead.texts (subst (λ (u : RestoredUpload). IsTextsFor c.numbers-numbers.result.now.uploads c.in-Ok-texts_ahead.texts u.metadata u.concat) c.upload.view_is c.in-Ok-texts_ahead.ensures.texts) c.in_default.is c.in-Ok.ensures.empty c.in-Ok.ensures.listed
+
+pub returns-in_default-body_for-clause-refused : goal.returns-in_default-body_for-clause-refused
+returns-in_default-body_for-clause-refused c =
+    lacking (the_view c.self.inside) c.args.self.now c.args.tenant c.from-place.result c.numbers-numbers.result.now c.account-account.result c.args.upload c.own_bytes-bytes.result.now c.own_refusal.result
+    (record { kept = c.self.invariant; is = c.self.view_is; tenant = c.requires.tenant_there; own = c.requires.own; form = c.requires.form; at = c.from-place.ensures; numbers_read = c.numbers-numbers.ensures.value; account_read = c.account-account.ensures; read_is = c.own_bytes-bytes.ensures; found_is = c.own_refusal.ensures })
+    c.in_default.is
 
 pub returns-in-Err-clause-refused : goal.returns-in-Err-clause-refused
 returns-in-Err-clause-refused c =

@@ -1,5 +1,13 @@
-use Rattle.std.proofs.Common.{ap, length, length-take-le, arith}
-use Rattle.std.proofs.lemmas.List.Sorted.{length_permutation}
+use Rattle.std.proofs.Common.{◌≡◌, ℕ, ◌+◌, ◌≤◌, true, List, All, Some, ap, sym, subst, ◌∙◌, length, vec_capacity, vec_len, length-take-le, arith}
+use Rattle.std.proofs.lemmas.Bool.Decides.{nat_tests}
+use Rattle.std.proofs.lemmas.List.Elements.{All-filter, All-weaker}
+use Rattle.std.proofs.lemmas.List.Sorted.{All-permutation, length_permutation}
+use Rattle.upload_book.specs.inside.ChargeAfter.{is_left}
+use Rattle.upload_book.specs.inside.Swept.{FindsRoom, IsBoxed}
+use Rattle.upload_book.specs.inside.Texts.{is_reserved}
+use Rattle.upload_book.specs.Stored.{StoredUpload}
+use Rattle.upload_book.specs.TenantBook.{Entry}
+use Rattle.upload_book.proofs.Store.StoreLemmas.{IsKind}
 use Rattle.upload_book.proofs.Store.SweptLemmas.{EndsExpired-moved, IsHeld-moved}
 use Rattle.upload_book.proofs.stored_tenant.StoredTenant.sweep.Goals as goal
 
@@ -9,13 +17,12 @@ end_from-requires-clause-held c =
 
 pub end_from-requires-clause-room : goal.end_from-requires-clause-room
 end_from-requires-clause-room c =
-    omega (
-      arith,
-      c.requires.room,
-      length_permutation c.args.self.now.uploads.items c.gather_left-left.new.uploads.items c.gather_left-left.ensures.moved,
-      c.args.self.now.uploads.ok.0,
-      c.gather_left-left.new.uploads.ok.0,
-    )
+    let before = c.args.self.now.uploads in
+    let moved = c.gather_left-left.new.uploads in
+    let spare = c.args.self.now.spare in
+    let same : vec_len before ≡ vec_len moved = omega (arith, length_permutation before.items moved.items c.gather_left-left.ensures.moved, before.ok.0, moved.ok.0) in
+    subst (λ (count : ℕ). All (FindsRoom (count + vec_len spare) (vec_capacity spare)) moved.items) same
+    (All-permutation (FindsRoom (vec_len before + vec_len spare) (vec_capacity spare)) before.items moved.items c.gather_left-left.ensures.moved c.requires.room)
 
 pub overflow_sub-result : goal.overflow_sub-result
 overflow_sub-result c =
@@ -44,17 +51,25 @@ returns-clause-ended c =
       length-take-le c.gather_left-left.result c.gather_left-left.new.uploads.items c.gather_left-left.ensures.within,
     )
 
+-- where there are boxes, the texts of each upload lie in one
+all-boxed : (room : ℕ) (entries : List (Entry StoredUpload)) → room ≤ 64 → All (IsKind room) entries → All IsBoxed entries
+all-boxed room entries few kinds = All-weaker (IsKind room) IsBoxed (λ e kind. kind ∙ reserved) entries kinds
+  where
+    reserved : is_reserved room ≡ true
+    reserved = grind (arith, nat_tests)
+
 pub returns-clause-room_stays : goal.returns-clause-room_stays
-returns-clause-room_stays c = λ room has. record {
-  uploads = omega (arith, has.uploads, c.gather_left-left.ensures.capacity, c.end_from.ensures.capacity);
-  spare = omega (arith, has.spare, c.end_from.ensures.spare_room);
-  boxes =
-      omega (
-        arith,
-        has.boxes,
-        c.end_from.ensures.boxes,
-        length_permutation c.args.self.now.uploads.items c.gather_left-left.new.uploads.items c.gather_left-left.ensures.moved,
-        c.args.self.now.uploads.ok.0,
-        c.gather_left-left.new.uploads.ok.0,
-      );
-}
+returns-clause-room_stays c = λ room has.
+    let before = c.args.self.now.uploads in
+    let moved = c.gather_left-left.new.uploads in
+    let same : vec_len before ≡ vec_len moved = omega (arith, length_permutation before.items moved.items c.gather_left-left.ensures.moved, before.ok.0, moved.ok.0) in
+    record {
+      uploads = omega (arith, has.uploads, c.gather_left-left.ensures.capacity, c.end_from.ensures.capacity);
+      boxed =
+          subst (All (IsKind room)) (sym (c.end_from.ensures.uploads ∙ c.gather_left-left.ensures.left))
+          (All-filter (λ (e : Entry StoredUpload). is_left (Some c.args.now) e.kept.expires) (IsKind room) before.items has.boxed);
+      spare = λ few. omega (arith, has.spare few, c.end_from.ensures.spare_room);
+      boxes = λ few.
+      let each = all-boxed room moved.items few (All-permutation (IsKind room) before.items moved.items c.gather_left-left.ensures.moved has.boxed) in
+      omega (arith, has.boxes few, c.end_from.ensures.boxes each, same);
+    }
