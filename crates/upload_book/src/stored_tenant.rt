@@ -168,7 +168,10 @@ fn gather_left(uploads: &mut Vec<StoredUpload>, now: Moment) -> usize
     ensures within { result ≤ length uploads.new.items }
     ensures capacity { vec_capacity uploads.new ≡ vec_capacity uploads.old }
 {
-    let ended = Ended { at: Some(now) };
+    let ended = Ended {
+        at: Some(now),
+        finals_stay: false,
+    };
     let mut left = 0;
     for place in 0..uploads.len() {
         if uploads[place].is_left(&ended) {

@@ -1,4 +1,4 @@
-use Rattle.std.proofs.Common.{List, ap, length, take_all, ◌∙◌, arith}
+use Rattle.std.proofs.Common.{List, ap, take_all, ◌∙◌, arith}
 use Rattle.std.specs.List.{flat_map}
 use Rattle.upload_book.specs.inside.FinalBack.{chain_from}
 use Rattle.upload_book.specs.Stored.{StoredUpload}
