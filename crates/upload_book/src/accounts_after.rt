@@ -21,9 +21,9 @@ use crate::ready::{
 use crate::restored::RestoredUpload;
 
 impl Book {
-    /// The accounts after a change for which the book is ready. For a DELETE and a sweep they go over the tenant's pieces
-    /// once for each piece of an upload that ends whose blocks others hold too and, where a sweep ends any, over the
-    /// uploads of all tenants. A sweep that ends none looks at no upload.
+    /// The accounts after a change for which the book is ready. Where a sweep ends any upload, they go over the uploads of all
+    /// tenants; a sweep that ends none looks at no upload. Where a final upload ends, they go over the tenant's pieces once for
+    /// each piece of an upload that ends whose blocks others hold too.
     pub(crate) fn accounts_after(&self, step: &Step) -> Accounts
         requires { IsReadyForStep self.now step.now }
         ensures { result ≡ accounts_of (book_after_change (plain_of self.now) (step_change step.now) (step_moment step.now)) }

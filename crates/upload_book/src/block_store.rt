@@ -121,8 +121,8 @@ impl BlockStore {
         charges
     }
 
-    /// How many blocks the tenant at this place will pay once the upload at a place has ended. It goes over the
-    /// tenant's pieces once for each piece of this upload whose blocks others hold too.
+    /// How many blocks the tenant at this place will pay once the upload at a place has ended. For a final upload it goes over
+    /// the tenant's pieces once for each of its pieces whose blocks others hold too.
     pub(crate) fn charge_without(&self, tenant: usize, place: usize) -> u64
         requires tenant { tenant < length self.now.stored_tenants }
         requires place { place < length (stored_tenant_at self.now tenant).uploads }
@@ -133,8 +133,8 @@ impl BlockStore {
     }
 
     /// How many blocks each of 16 tenants will pay, by its place, once all uploads that have expired at `now` have
-    /// ended; 0 where there is no tenant. It goes over all uploads once, and over a tenant's pieces once for each
-    /// piece of an upload that has expired whose blocks others hold too.
+    /// ended; 0 where there is no tenant. It goes over all uploads twice. Where a final one of a tenant has expired, it goes over
+    /// the tenant's pieces once for each piece of an upload that has expired whose blocks others hold too.
     pub(crate) fn charges_swept(&self, now: Moment) -> [u64; 16]
         ensures { result ≡ map (λ tenant. charge_with self.now.pool.block_size
             (part_after_sweep now (part_at self.now tenant))) (range_with_len 0 16) }

@@ -4,7 +4,7 @@ ghost use Rattle.std.specs.List.{list_all};
 ghost use Rattle.block_pool.specs.Blocks.{Blocks};
 ghost use Rattle.upload_book.specs.inside.FinalBack.{AreRoomsFor, Brings, BringsTo, HasBytes, IsRoomFor, MayBring, MayBringEach, brought_blocks, brought_from, brought_in, chain_from, left_of, left_with, segment_len, sent_len};
 ghost use Rattle.upload_book.specs.inside.Ids.{AreBelow};
-ghost use Rattle.upload_book.specs.inside.Kept.{stored_tenant_of};
+ghost use Rattle.upload_book.specs.inside.Kept.{stored_tenant_of, AreInOrder};
 ghost use Rattle.upload_book.specs.inside.Pieces.{HasOwnPiece, ReadsWhole};
 ghost use Rattle.upload_book.specs.snapshot.Restore.{may_be_part, sent_back, sent_in};
 ghost use Rattle.upload_book.specs.Stored.{part_of, pieces_of};
@@ -76,9 +76,10 @@ pub(crate) fn brought_in(segments: &[RestoredSegment], size: u64) -> u64
 
 impl StoredTenant {
     /// What is left of limits where these segments are put back, one after another, in blocks of a size; `None` where one
-    /// lacks its bytes or brings them again. It goes over the tenant's pieces once for each segment.
+    /// lacks its bytes or brings them again. For each segment it goes over the uploads from the one of its origin on.
     pub(crate) fn left(&self, segments: &[RestoredSegment], limits: Left, size: u64) -> Option<Left>
-        requires { 0 < size }
+        requires size { 0 < size }
+        requires order { AreInOrder (stored_tenant_of self.now) }
         ensures { (p : Blocks) → All HasOwnPiece (stored_tenant_of self.now).uploads
             → ReadsWhole p (pieces_of (stored_tenant_of self.now))
             → result ≡ option_map (λ sent. left_with limits (sent_len sent) (brought_in size segments.now))
@@ -95,6 +96,7 @@ impl StoredTenant {
 
     // How many bytes a segment has behind these; `None` where it lacks its bytes or brings them again.
     fn segment_len(&self, earlier: &[RestoredSegment], segment: &RestoredSegment) -> Option<u64>
+        requires { AreInOrder (stored_tenant_of self.now) }
         ensures { result ≡ segment_len (pieces_of (stored_tenant_of self.now)) earlier.now segment.now }
     {
         let standing = match self.chain_from(segment.origin) {
@@ -143,7 +145,8 @@ impl StoredTenant {
         segments: &[RestoredSegment],
         size: u64,
     ) -> Result<Vec<Body>, AllocError>
-        requires { 0 < size }
+        requires size { 0 < size }
+        requires order { AreInOrder (stored_tenant_of self.now) }
         ensures { IfOk result (λ v. AreRoomsFor size (pieces_of (stored_tenant_of self.now)) segments.now v.items) }
     {
         let mut bodies = Vec::with_capacity(alloc, segments.len())?;
@@ -162,6 +165,7 @@ impl StoredTenant {
         pool: &mut Pool,
         pieces: &mut Vec<Piece>,
     )
+        requires order { AreInOrder (stored_tenant_of self.now) }
         requires none { pieces.old.items ≡ [] }
         requires room { length segments.now ≤ vec_capacity pieces.old }
         requires may { MayBringEach pool.old (pieces_of (stored_tenant_of self.now)) segments.now bodies.items }
@@ -176,6 +180,7 @@ impl StoredTenant {
     // Has a segment at the end of these pieces: its bytes are put into the body, or the body holds the blocks of a piece of its
     // origin.
     fn bring(&self, segment: &RestoredSegment, body: Body, pool: &mut Pool, pieces: &mut Vec<Piece>)
+        requires order { AreInOrder (stored_tenant_of self.now) }
         requires room { vec_len pieces.old < vec_capacity pieces.old }
         requires may { MayBring pool.old (pieces_of (stored_tenant_of self.now) ++ pieces.old.items) segment.now body }
         ensures brings { Brings pool.old (pieces_of (stored_tenant_of self.now)) pieces.old.items segment.now
@@ -193,7 +198,8 @@ impl StoredTenant {
 
     // Fills an empty body with a segment.
     fn fill(&self, segment: &RestoredSegment, pieces: &[Piece], body: &mut Body, pool: &mut Pool)
-        requires { MayBring pool.old (pieces_of (stored_tenant_of self.now) ++ pieces.now) segment.now body.old }
+        requires order { AreInOrder (stored_tenant_of self.now) }
+        requires may { MayBring pool.old (pieces_of (stored_tenant_of self.now) ++ pieces.now) segment.now body.old }
         ensures { HasBytes pool.old (pieces_of (stored_tenant_of self.now) ++ pieces.now)
             segment.now.origin segment.now.bytes pool.new body.new }
     {
@@ -210,6 +216,7 @@ impl StoredTenant {
 
     // The body of the first piece of an origin, of the tenant's and these.
     fn standing<'a>(&'a self, pieces: &'a [Piece], origin: u64) -> Option<&'a Body>
+        requires { AreInOrder (stored_tenant_of self.now) }
         ensures { option_map (λ chain. chain.now) result
             ≡ chain_from (pieces_of (stored_tenant_of self.now) ++ pieces.now) origin }
     {

@@ -94,11 +94,13 @@ impl StoredTenant {
             .ok()
     }
 
-    /// The body of the first of the tenant's pieces that has this origin, where there is one.
+    /// The body of the first of the tenant's pieces that has this origin, where there is one. It goes over the uploads from the
+    /// one of this origin on.
     pub(crate) fn chain_from(&self, origin: u64) -> Option<&Body>
+        requires { AreInOrder (stored_tenant_of self.now) }
         ensures { option_map (λ chain. chain.now) result ≡ chain_from (pieces_of (stored_tenant_of self.now)) origin }
     {
-        first_chain(&self.uploads, origin)
+        first_chain(self.since(self.uploads.len(), origin), origin)
     }
 
     /// Whether a piece of an upload before a place, or a piece before one of the upload there, has this origin. It goes
@@ -138,7 +140,7 @@ impl StoredTenant {
     // The uploads before a place that stand under this id or a later one. No other has a piece of this origin.
     fn since(&self, place: usize, origin: u64) -> &[StoredUpload]
         requires order { AreInOrder (stored_tenant_of self.now) }
-        requires there { place < length self.now.uploads.items }
+        requires there { place ≤ length self.now.uploads.items }
         ensures { chain_from (flat_map (λ e. e.kept.pieces) result.now) origin
             ≡ chain_from (flat_map (λ e. e.kept.pieces) (take place self.now.uploads.items)) origin }
     {
@@ -167,7 +169,10 @@ fn gather_left(uploads: &mut Vec<StoredUpload>, now: Moment) -> usize
     ensures within { result ≤ length uploads.new.items }
     ensures capacity { vec_capacity uploads.new ≡ vec_capacity uploads.old }
 {
-    let ended = Ended { at: Some(now) };
+    let ended = Ended {
+        at: Some(now),
+        finals_stay: false,
+    };
     let mut left = 0;
     for place in 0..uploads.len() {
         if uploads[place].is_left(&ended) {

@@ -1,4 +1,4 @@
-ghost use Rattle.std.specs.Prelude.{◌≡◌, ◌≢◌, ◌+◌, ◌<◌, ◌≤◌, ◌&&◌, [], ◌∷◌, ◌++◌, drop, get_or, is_some, length, map, option_map, take, vec_len, vec_capacity, IfOk, IsOk, OnOk, OnErr, IsTrue};
+ghost use Rattle.std.specs.Prelude.{◌≡◌, ◌≢◌, ◌↔◌, ◌+◌, ◌<◌, ◌≤◌, ◌&&◌, [], ◌∷◌, ◌++◌, drop, get_or, is_some, length, map, option_map, take, vec_len, vec_capacity, IfOk, IsOk, OnOk, OnErr, IsTrue};
 ghost use Rattle.block_pool.specs.Blocks.{Blocks, free_in};
 ghost use Rattle.block_bodies.specs.Bodies.{HasRoom, IsBodyOf, IsHeld, IsLastOwn, StandsOnce, blocks_for, blocks_with};
 ghost use Rattle.block_bodies.specs.Changes.{Puts, GivesBack};
@@ -8,7 +8,7 @@ ghost use Rattle.upload_book.specs.Create.{new_kind};
 ghost use Rattle.upload_book.specs.declared.head_row.Kind.TheVariants.{Final};
 ghost use Rattle.upload_book.specs.declared.pieces.Piece.{Piece};
 ghost use Rattle.upload_book.specs.Expiry.{has_expired};
-ghost use Rattle.upload_book.specs.inside.ChargeAfter.{is_left, sources_in};
+ghost use Rattle.upload_book.specs.inside.ChargeAfter.{is_left, is_left_if_final, sources_in};
 ghost use Rattle.upload_book.specs.inside.FinalBack.{chain_from};
 ghost use Rattle.upload_book.specs.Lawful.{is_kept_metadata, IsConcatText};
 ghost use Rattle.upload_book.specs.Progress.{progress_in};
@@ -149,6 +149,23 @@ impl StoredUpload {
             Some(now) => !self.has_expired(now),
             None => true,
         }
+    }
+
+    /// Whether the upload is left where others have ended, if it is a final one.
+    pub(crate) fn is_left_if_final(&self, ended: &Ended) -> bool
+        ensures { result ≡ is_left_if_final ended.now.at self.now.kept.kind self.now.kept.expires }
+    {
+        match &self.held {
+            HeldBytes::Own { .. } => true,
+            HeldBytes::Joined { .. } => self.is_left(ended),
+        }
+    }
+
+    /// Whether it is a final upload.
+    pub(crate) fn is_final(&self) -> bool
+        ensures { IsTrue result ↔ (self.now.kept.kind ≡ Final) }
+    {
+        matches!(self.held, HeldBytes::Joined { .. })
     }
 
     /// What the upload is for.

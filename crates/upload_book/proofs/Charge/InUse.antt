@@ -121,7 +121,7 @@ dearer-first a origin m r first = elim (eqb_tells a origin) [
     dearer-differs a origin m r other = grind (arith, nat_tests)
 
 -- an origin costs at least what each segment of it takes
-price-enough : (size origin : ℕ) (xs : List Piece) (y : Piece) → Contains xs y → y.origin ≡ origin → blocks_for size y.chain.len ≤ price size (map paid xs) origin
+pub price-enough : (size origin : ℕ) (xs : List Piece) (y : Piece) → Contains xs y → y.origin ≡ origin → blocks_for size y.chain.len ≤ price size (map paid xs) origin
 price-enough size origin [] y c same = absurd (Contains-none y c)
 price-enough size origin (x ∷ xs) y c same =
     let m : ℕ = blocks_for size x.chain.len in

@@ -11,7 +11,7 @@ use Rattle.upload_book.specs.inside.Kept.{stored_tenant_of, store_of, IsKept}
 use Rattle.upload_book.specs.inside.ChargeAfter.{cost_of, left, AreCounted, IsPaid}
 use Rattle.upload_book.specs.BlockStore.{part_at}
 use Rattle.upload_book.specs.inside.Places.{without_upload}
-use Rattle.upload_book.specs.Stored.{StoredTenant, StoredUpload, entry_of, part_of, pieces_of}
+use Rattle.upload_book.specs.Stored.{StoredTenant, StoredUpload, entry_of, part_of}
 use Rattle.upload_book.specs.inside.Pieces.{HasOwnPiece}
 use Rattle.upload_book.specs.Sweep.{part_after_sweep}
 use Rattle.upload_book.specs.TenantBook.{Entry}
@@ -22,9 +22,8 @@ use Rattle.upload_book.proofs.Charge.PlainCharge.{charge-plain}
 use Rattle.upload_book.proofs.Store.PlainStoredTenants.{part-without}
 use Rattle.upload_book.proofs.Store.SweptLemmas.{pieces-swept, swept_stored_tenant}
 use Rattle.upload_book.proofs.Store.StoredTenants.{IsStoredOn-stored_tenant}
-use Rattle.upload_book.proofs.Store.StoredTenants.{places_on-held}
 use Rattle.upload_book.proofs.Store.StoreAppend.{charge-few}
-use Rattle.upload_book.proofs.Store.StoreLemmas.{IsPart, IsStoredTenant-part, charge-part, charges-kept, own-part, reads-part, stored_tenant_at-part}
+use Rattle.upload_book.proofs.Store.StoreLemmas.{IsPart, IsStoredTenant-part, charge-part, charges-kept, order-part, own-part, reads-part, stored_tenant_at-part}
 
 -- a part knows what its tenant pays, and its pieces were sent to uploads that were given
 pub IsPaid-part : (v : Inside) (t : ℕ) (old : KeptTenant) → IsKept v → IsPart v t old → IsPaid v.pool.block_size old
@@ -35,10 +34,16 @@ IsPaid-part v t old kept is = record {
 }
 
 -- its blocks are counted
-pub AreCounted-part : (v : Inside) (t : ℕ) (old : KeptTenant) → IsKept v → IsPart v t old → AreCounted v.pool (pieces_of (stored_tenant_of old))
+pub AreCounted-part : (v : Inside) (t : ℕ) (old : KeptTenant) → IsKept v → IsPart v t old → AreCounted v.pool (stored_tenant_of old)
 AreCounted-part v t old kept is =
     let on = IsStoredOn-stored_tenant v.pool (store_of v).stored_tenants t (stored_tenant_of old) kept.stored (IsStoredTenant-part v t old is) in
-    record { counted = λ b. places_on-held v.pool (stored_tenant_of old) on b; agree = on.pieces.agree }
+    record {
+      counts = on.counts;
+      once = λ x c. (on.pieces.each x c).once;
+      agree = on.pieces.agree;
+      own = own-part v t old kept is;
+      ids = (order-part v t old kept is).ids;
+    }
 
 -- what it will pay without the upload at a place, by the plain book
 pub charge-without : (v : Inside) (t place : ℕ) (old : KeptTenant) → IsKept v → IsPart v t old

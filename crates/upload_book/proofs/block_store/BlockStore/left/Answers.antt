@@ -4,8 +4,13 @@ use Rattle.upload_book.specs.inside.FinalBack.{brought_in, left_with, sent_len}
 use Rattle.upload_book.specs.inside.Kept.{stored_tenant_of}
 use Rattle.upload_book.specs.snapshot.Restore.{sent_back, sent_in}
 use Rattle.upload_book.specs.Stored.{StoredTenant, part_of}
-use Rattle.upload_book.proofs.Store.StoreLemmas.{IsPart-read, own-part, reads-part, stored_tenant_at-part}
+use Rattle.upload_book.proofs.Store.StoreLemmas.{IsPart-read, order-part, own-part, reads-part, stored_tenant_at-part}
 use Rattle.upload_book.proofs.block_store.BlockStore.left.Goals as goal
+
+pub left-requires-clause-order : goal.left-requires-clause-order
+left-requires-clause-order c =
+    let old = c.index.result.now in
+    order-part c.self.inside c.args.tenant old c.self.invariant (IsPart-read c.self.inside c.args.self.now c.args.tenant old c.self.view_is c.requires c.index.ensures)
 
 pub returns : goal.returns
 returns c =

@@ -18,7 +18,7 @@ use Rattle.upload_book.specs.TenantBook.{Entry}
 use Rattle.upload_book.proofs.Lawful.TextLemmas.{concat-fits, kept_metadata-fits}
 use Rattle.upload_book.proofs.Store.StoreAppend.{charge-few}
 use Rattle.upload_book.proofs.Store.StoreBack.{IsKept-back, back-len, back-may, back-used, plain-back, sizes-back}
-use Rattle.upload_book.proofs.Store.StoreLemmas.{IsPart, IsPart-read, room-more, room-part, spare-some}
+use Rattle.upload_book.proofs.Store.StoreLemmas.{IsPart, IsPart-read, order-part, room-more, room-part, spare-some}
 use Rattle.upload_book.proofs.block_store.BlockStore.put_back.Goals as goal
 
 -- what was read where a final upload is put back
@@ -62,6 +62,11 @@ module _ {v : Inside} {w : BlockStore} {t : ℕ} {a b : KeptTenant} {r : ReadyBa
 
   len : (found : Option ℕ) → found ≡ r.upload.declared → unwrap_or found 0 ≡ pieces_len pieces
   len found is = ap (λ (n : Option ℕ). unwrap_or n 0) is ∙ back-len v t b r s.kept part may q pieces had
+
+pub bring_each-requires-clause-order : goal.bring_each-requires-clause-order
+bring_each-requires-clause-order c =
+    let old = c.index.result.now in
+    order-part c.self.inside c.args.tenant old c.self.invariant (IsPart-read c.self.inside c.args.self.now c.args.tenant old c.self.view_is c.requires.tenant c.index.ensures)
 
 pub bring_each-requires-clause-may : goal.bring_each-requires-clause-may
 bring_each-requires-clause-may c =

@@ -2,8 +2,13 @@ use Rattle.std.proofs.Common.{ℕ, IfOk, sym, subst, ◌∙◌}
 use Rattle.upload_book.specs.inside.FinalBack.{AreRoomsFor}
 use Rattle.upload_book.specs.inside.Kept.{stored_tenant_of}
 use Rattle.upload_book.specs.Stored.{StoredTenant, pieces_of}
-use Rattle.upload_book.proofs.Store.StoreLemmas.{IsPart-read, stored_tenant_at-part}
+use Rattle.upload_book.proofs.Store.StoreLemmas.{IsPart-read, order-part, stored_tenant_at-part}
 use Rattle.upload_book.proofs.block_store.BlockStore.rooms_for.Goals as goal
+
+pub rooms_for-requires-clause-order : goal.rooms_for-requires-clause-order
+rooms_for-requires-clause-order c =
+    let old = c.index.result.now in
+    order-part c.self.inside c.args.tenant old c.self.invariant (IsPart-read c.self.inside c.args.self.now c.args.tenant old c.self.view_is c.requires c.index.ensures)
 
 pub returns : goal.returns
 returns c =

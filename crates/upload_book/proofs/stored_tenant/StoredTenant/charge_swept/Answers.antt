@@ -21,4 +21,5 @@ overflow_sub-result c = omega (arith, c.loop-place.invariant)
 pub returns : goal.returns
 returns c =
     let t = c.args.self.now in
-    omega (arith, c.loop-place.invariant, ap (cost_of c.args.size t.next) (left_to-end (Some c.args.now) t.uploads.items c.loop-place.place (omega (arith, c.loop-place-test.false, c.len-place-end.ensures))))
+    let at = ap (λ at. cost_of c.args.size t.next (left_to at t.uploads.items c.loop-place.place)) c.ended_at-ended.ensures.at in
+    omega (arith, c.loop-place.invariant, at, ap (cost_of c.args.size t.next) (left_to-end (Some c.args.now) t.uploads.items c.loop-place.place (omega (arith, c.loop-place-test.false, c.len-place-end.ensures))))
