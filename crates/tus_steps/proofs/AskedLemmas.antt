@@ -1,9 +1,11 @@
 -- What was found of a request is what it asks for, and its step.
-use Rattle.std.proofs.Common.{◌≡◌, ◌≢◌, ℕ, [], ◌∷◌, arith, true, false, List, length, Option, None, Result, Ok, Err, IfOk, IfErr, OnOk, OnErr, inl, inr, refl, sym, ap, ◌∙◌, subst}
+use Rattle.std.proofs.Common.{◌≡◌, ◌≢◌, ◌<◌, ◌+◌, ◌-◌, ℕ, [], ◌∷◌, arith, true, false, List, length, take, Option, None, Some, Result, Ok, Err, IfOk, IfErr, OnOk, OnErr, inl, inr, refl, sym, ap, ◌∙◌, subst}
 use Rattle.std.proofs.lemmas.Bool.{cases_Bool}
+use Rattle.std.proofs.lemmas.List.{drop_all, take_all}
 use Rattle.std.specs.Result.{IsOkAnd}
 use Rattle.upload_book.specs.Change.{MayLackFor, book_after_change, change_answer, change_lacking}
-use Rattle.upload_book.specs.Content.{LacksRoom, content_answer}
+use Rattle.upload_book.specs.Content.{LacksRoom, bytes_at, content_answer, len_answer, span_answer, with_content}
+use Rattle.upload_book.specs.declared.content.ByteSpan.{ByteSpan}
 use Rattle.upload_book.specs.declared.append.Refused.{Refused}
 use Rattle.upload_book.specs.declared.change.Change.{Change}
 use Rattle.upload_book.specs.declared.change.Change.TheVariants as change
@@ -23,14 +25,17 @@ use Rattle.tus_steps.specs.Asked.{CanBeAsked, asked_by, asked_for, asked_in, ask
 use Rattle.tus_steps.specs.Changing.{IsFound, IsStepOf, change_reply}
 use Rattle.tus_steps.specs.declared.asked.Asked.{Asked}
 use Rattle.tus_steps.specs.declared.asked.Asked.TheVariants as asked
+use Rattle.tus_steps.specs.declared.range.Extent.{Extent}
+use Rattle.tus_steps.specs.declared.range.Extent.TheVariants as extent
 use Rattle.tus_steps.specs.declared.reply.Reply.{Reply}
 use Rattle.tus_steps.specs.declared.reply.Reply.TheVariants as reply
 use Rattle.tus_steps.specs.declared.requested_change.ChangeOf.{ChangeOf}
 use Rattle.tus_steps.specs.Method.{is_options}
 use Rattle.tus_steps.specs.Operation.{operation_of}
-use Rattle.tus_steps.specs.Reply.{IsRefusing, content_reply, head_reply, refusing}
+use Rattle.tus_steps.specs.Range.{bytes_in, extent_of}
+use Rattle.tus_steps.specs.Reply.{IsRefusing, bytes_told, content_reply, extent_reply, given_reply, head_reply, refusing}
 use Rattle.tus_steps.specs.Request.{Request}
-use Rattle.tus_steps.specs.Step.{IsStep}
+use Rattle.tus_steps.specs.Step.{IsContentReply, IsStep}
 use Rattle.tus_steps.proofs.ChangeLemmas.{change-step}
 use Rattle.tus_steps.proofs.StepLemmas.{step-by}
 
@@ -100,11 +105,31 @@ asks-in s r asks is = elim (cases_Bool (is_options r.method)) [
       subst (IsAsked s r) (sym (is ∙ found)) (asks-by s r (operation_of s r) other refl)
 ]
 
--- a GET of more bytes than there is room for is one of some bytes
-lacks-some : (room : ℕ) (answer : Result (List ℕ) Refusal) → LacksRoom room answer → IsOkAnd answer (λ bytes. bytes ≢ [])
-lacks-some room (Ok []) lacks = absurd (omega (arith, lacks))
-lacks-some room (Ok (byte ∷ bytes)) lacks = λ empty. absurd (cc)
-lacks-some room (Err why) lacks = lacks
+-- a reply that gives more bytes than there is room for gives some,
+gives-some : (room : ℕ) (bytes : List ℕ) → room < length bytes → bytes ≢ []
+gives-some room [] lacks = absurd (omega (arith, lacks))
+gives-some room (byte ∷ bytes) lacks = λ empty. absurd (cc)
+
+-- and is one to a GET that gives some as a whole
+whole-some : (r : Request) (answer : Result (List ℕ) Refusal) → bytes_told (content_reply r answer) ≢ [] → IsOkAnd answer (λ bytes. bytes ≢ [])
+whole-some r (Err why) some = absurd (some refl)
+whole-some r (Ok []) some = absurd (some (none (extent_of r.range 0)))
+  where
+    none : (extent : Option Extent) → bytes_told (extent_reply extent []) ≡ []
+    none None = refl
+    none (Some extent.Plain) = refl
+    none (Some extent.Whole) = refl
+    none (Some (extent.Range first last len)) = ap (take ((last + 1) - first)) (drop_all first [] (omega arith)) ∙ take_all ((last + 1) - first) [] (omega arith)
+whole-some r (Ok (byte ∷ bytes)) some = λ empty. absurd (cc)
+
+-- what is told of how many bytes a GET gives is so of its bytes
+pub content-refused : (answer : Result (List ℕ) Refusal) (why : Refusal) → with_content (λ bytes. length bytes) answer ≡ Err why → answer ≡ Err why
+content-refused (Ok bytes) why is = absurd cc
+content-refused (Err other) why is = cc
+
+content-len : (answer : Result (List ℕ) Refusal) (len : ℕ) → with_content (λ bytes. length bytes) answer ≡ Ok len → (bytes : List ℕ) × (answer ≡ Ok bytes) × (length bytes ≡ len)
+content-len (Ok bytes) len is = (bytes, refl, cc)
+content-len (Err why) len is = absurd cc
 
 module _ (b : PlainBook) (r : Request) (now : ℕ) where
   -- the steps of a request that asks for no change: OPTIONS,
@@ -124,15 +149,44 @@ module _ (b : PlainBook) (r : Request) (now : ℕ) where
       step-by b r now (operation.Look name) _ b asks.0 asks.1 (inl (refl, refl))
 
   -- and a GET, whose bytes were given so much room
-  pub content-step : (name : Name) (room : ℕ) (bytes : Result (List ℕ) Refusal) → asked.Content name ≡ asked_in b.settings r
-      → IsAnswer (answer_of b name.tenant (content_answer name.id now)) (LacksRoom room (answer_of b name.tenant (content_answer name.id now))) (Err refusal.Memory) bytes
-      → IsStep b r now (content_reply r bytes) b
-  content-step name room bytes is answer =
+  pub content-step : (name : Name) (room : ℕ) (told : Reply) → asked.Content name ≡ asked_in b.settings r → IsContentReply b r now name room told → IsStep b r now told b
+  content-step name room told is answer =
       let asks = asks-in b.settings r (asked.Content name) is in
       step-by b r now (operation.Content name) _ b asks.0 asks.1 (elim answer [
-        | inl same ↦ inl (ap (content_reply r) same, refl)
-        | inr lacks ↦ inr (lacks-some room _ lacks.0, ap (content_reply r) lacks.1, refl)
+        | inl same ↦ inl (same, refl)
+        | inr lacks ↦
+            let some = gives-some room (bytes_told (content_reply r (answer_of b name.tenant (content_answer name.id now)))) lacks.0 in
+            inr ((whole-some r (answer_of b name.tenant (content_answer name.id now)) some, some), lacks.1, refl)
       ])
+
+  -- the replies to a GET: one that is refused,
+  pub reply-refused : (name : Name) (room : ℕ) (why : Refusal) → answer_of b name.tenant (len_answer name.id now) ≡ Err why → IsContentReply b r now name room (refusing r why None)
+  reply-refused name room why refused =
+      inl (sym (ap (content_reply r) (content-refused (answer_of b name.tenant (content_answer name.id now)) why refused)))
+
+  -- one that has none of the bytes,
+  pub reply-none : (name : Name) (room len : ℕ) → answer_of b name.tenant (len_answer name.id now) ≡ Ok len → extent_of r.range len ≡ None → IsContentReply b r now name room (reply.Unsatisfiable len)
+  reply-none name room len told none =
+      let found = content-len (answer_of b name.tenant (content_answer name.id now)) len told in
+      let bytes = found.0 in
+      let same : content_reply r (Ok bytes) ≡ reply.Unsatisfiable (length bytes) = ap (λ extent. extent_reply extent bytes) (ap (extent_of r.range) found.2 ∙ none) in
+      inl (sym (ap (content_reply r) found.1 ∙ same ∙ ap reply.Unsatisfiable found.2))
+
+  -- and one that gives some of them, which were given so much room
+  pub reply-given : (name : Name) (room len : ℕ) (extent : Extent) (span : ByteSpan) (given : Result (List ℕ) Refusal) → answer_of b name.tenant (len_answer name.id now) ≡ Ok len → extent_of r.range len ≡ Some extent
+      → ((bytes : List ℕ) → length bytes ≡ len → bytes_at span bytes ≡ bytes_in extent bytes)
+      → IsAnswer (answer_of b name.tenant (span_answer span name.id now)) (LacksRoom room (answer_of b name.tenant (span_answer span name.id now))) (Err refusal.Memory) given
+      → IsContentReply b r now name room (given_reply r extent given)
+  reply-given name room len extent span given told some same answer =
+      let found = content-len (answer_of b name.tenant (content_answer name.id now)) len told in
+      let bytes = found.0 in
+      let whole : content_reply r (answer_of b name.tenant (content_answer name.id now)) ≡ reply.Content (bytes_in extent bytes) extent =
+      ap (content_reply r) found.1 ∙ ap (λ extent. extent_reply extent bytes) (ap (extent_of r.range) found.2 ∙ some) in
+      let part : answer_of b name.tenant (span_answer span name.id now) ≡ Ok (bytes_in extent bytes) = ap (with_content (bytes_at span)) found.1 ∙ ap Ok (same bytes found.2) in
+      elim answer [
+        | inl is ↦ inl (ap (given_reply r extent) (is ∙ part) ∙ sym whole)
+        | inr lacks ↦ inr (subst (λ (told : Reply). room < length (bytes_told told)) (sym whole) (subst (LacksRoom room) part lacks.0), ap (given_reply r extent) lacks.1)
+      ]
 
   -- a step, by other names of what was given and left
   replied : (offset : Option ℕ) (result answer : Result Outcome Refused) (after left : PlainBook) → result ≡ answer → after ≡ left → IsStep b r now (change_reply r offset answer) left → IsStep b r now (change_reply r offset result) after

@@ -23,12 +23,14 @@ use Rattle.upload_book.specs.Sweep.{book_after_sweep, part_after_sweep}
 use Rattle.upload_book.specs.TenantBook.{TenantBook, opening_part, visible_upload}
 use Rattle.upload_book.specs.Terminate.{part_after_terminate, terminate_answer}
 use Rattle.upload_book.specs.Upload.{Upload}
+use Rattle.tus_steps.specs.declared.range.Extent.{Extent}
 use Rattle.tus_steps.specs.declared.reply.Reply.{Reply}
 use Rattle.tus_steps.specs.History.{is_of, next_after, next_of, part_of}
 use Rattle.tus_steps.specs.Isolation.{HasEachPart, quota_of}
 use Rattle.tus_steps.specs.Method.{is_options}
 use Rattle.tus_steps.specs.Operation.{operation_of}
-use Rattle.tus_steps.specs.Reply.{append_reply, content_reply, creation_reply, deletion_reply, head_reply}
+use Rattle.tus_steps.specs.Reply.{append_reply, content_reply, creation_reply, deletion_reply, extent_reply, head_reply}
+use Rattle.tus_steps.specs.Range.{extent_of}
 use Rattle.tus_steps.specs.Request.{Request}
 use Rattle.tus_steps.specs.Route.{tenant_name}
 use Rattle.tus_steps.specs.Step.{IsOperationStep, IsStep, IsStepBy}
@@ -50,7 +52,10 @@ shown-next next (Ok row) = refl
 shown-next next (Err why) = refl
 
 given-next : (next : ℕ) (r : Request) (bytes : Result (List ℕ) Refusal) → next ≡ next_after next (content_reply r bytes)
-given-next next r (Ok bytes) = refl
+given-next next r (Ok bytes) = by (extent_of r.range (length bytes)) where
+  by : (extent : Option Extent) → next ≡ next_after next (extent_reply extent bytes)
+  by None = refl
+  by (Some extent) = refl
 given-next next r (Err why) = refl
 
 appended-next : (part : TenantBook) (id : ℕ) (r : Request) (result : Result Upload Refused) → (with_appended part id result).next ≡ next_after part.next (append_reply r (told result))

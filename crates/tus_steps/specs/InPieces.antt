@@ -6,7 +6,7 @@ use Rattle.upload_book.specs.Expiry.{lifetime_end}
 use Rattle.upload_book.specs.Lawful.{IsLawful}
 use Rattle.upload_book.specs.PlainBook.{PlainBook}
 use Rattle.tus_steps.specs.declared.reply.Reply.{Reply}
-use Rattle.tus_steps.specs.declared.reply.Reply.TheVariants.{Options, Created, Head, Content, Patched, Deleted, Refused}
+use Rattle.tus_steps.specs.declared.reply.Reply.TheVariants.{Options, Created, Head, Content, Unsatisfiable, Patched, Deleted, Refused}
 use Rattle.tus_steps.specs.declared.method.Method.{Method}
 use Rattle.tus_steps.specs.declared.method.Method.TheVariants.{Patch}
 use Rattle.tus_steps.specs.declared.tus_fields.TusFields.{TusFields}
@@ -20,7 +20,8 @@ abbrev pub is_patched : Reply → Bool
 is_patched (Options max_size) = false
 is_patched (Created tenant id offset expires) = false
 is_patched (Head row) = false
-is_patched (Content bytes) = false
+is_patched (Content bytes extent) = false
+is_patched (Unsatisfiable len) = false
 is_patched (Patched offset expires) = true
 is_patched Deleted = false
 is_patched (Refused why head at expires) = false
@@ -30,7 +31,8 @@ abbrev pub created_in : Reply → Option ℕ
 created_in (Options max_size) = None
 created_in (Created tenant id offset expires) = Some id
 created_in (Head row) = None
-created_in (Content bytes) = None
+created_in (Content bytes extent) = None
+created_in (Unsatisfiable len) = None
 created_in (Patched offset expires) = None
 created_in Deleted = None
 created_in (Refused why head at expires) = None

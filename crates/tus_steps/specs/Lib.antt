@@ -2,6 +2,7 @@ pub mod Method
 pub mod Field
 pub mod TusFields
 pub mod Media
+pub mod Range
 pub mod Request
 pub mod Route
 pub mod Creation

@@ -11,7 +11,8 @@ abbrev pub reply_with : ReplyKind → HeadRow → Reply
 reply_with (kind.Options max_size) row = reply.Options max_size
 reply_with (kind.Created tenant id offset expires) row = reply.Created tenant id offset expires
 reply_with kind.Head row = reply.Head row
-reply_with (kind.Content bytes) row = reply.Content bytes
+reply_with (kind.Content bytes extent) row = reply.Content bytes extent
+reply_with (kind.Unsatisfiable len) row = reply.Unsatisfiable len
 reply_with (kind.Patched offset expires) row = reply.Patched offset expires
 reply_with kind.Deleted row = reply.Deleted
 reply_with (kind.Refused why head place expires) row = reply.Refused why head place expires

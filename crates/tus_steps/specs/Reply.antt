@@ -1,5 +1,5 @@
 -- The reply to what the book answers.
-use Rattle.std.specs.Prelude.{ℕ, true, List, Option, None, unwrap_or, [], Result, Ok, Err, ⊤}
+use Rattle.std.specs.Prelude.{ℕ, true, length, List, Option, None, Some, unwrap_or, [], Result, Ok, Err, ⊤}
 use Rattle.tus_text.specs.declared.path.Path.{Path}
 use Rattle.tus_text.specs.declared.path.Path.TheVariants as path
 use Rattle.upload_book.specs.declared.append.Appended.{Appended}
@@ -8,11 +8,13 @@ use Rattle.upload_book.specs.declared.create.Created.{Created}
 use Rattle.upload_book.specs.declared.head_row.HeadRow.{HeadRow}
 use Rattle.upload_book.specs.declared.refusal.Refusal.{Refusal}
 use Rattle.upload_book.specs.declared.terminate.Removed.{Removed}
+use Rattle.tus_steps.specs.declared.range.Extent.{Extent}
 use Rattle.tus_steps.specs.declared.reply.PathKind.{PathKind}
 use Rattle.tus_steps.specs.declared.reply.PathKind.TheVariants as place
 use Rattle.tus_steps.specs.declared.reply.Reply.{Reply}
 use Rattle.tus_steps.specs.declared.reply.Reply.TheVariants as reply
 use Rattle.tus_steps.specs.Method.{is_head}
+use Rattle.tus_steps.specs.Range.{bytes_in, extent_of}
 use Rattle.tus_steps.specs.Request.{Request}
 use Rattle.tus_steps.specs.Route.{tenant_name}
 
@@ -36,10 +38,25 @@ abbrev pub head_reply : Result HeadRow Refusal → Reply
 head_reply (Ok row) = reply.Head row
 head_reply (Err why) = reply.Refused why true place.Upload None
 
+-- the reply that gives some of an upload's bytes, or tells how many these are where it gives none of them
+abbrev pub extent_reply : Option Extent → List ℕ → Reply
+extent_reply None bytes = reply.Unsatisfiable (length bytes)
+extent_reply (Some extent) bytes = reply.Content (bytes_in extent bytes) extent
+
 -- the reply to a GET
 abbrev pub content_reply : Request → Result (List ℕ) Refusal → Reply
-content_reply r (Ok bytes) = reply.Content bytes
+content_reply r (Ok bytes) = extent_reply (extent_of r.range (length bytes)) bytes
 content_reply r (Err why) = refusing r why None
+
+-- the same by what it gives, where that is not refused
+abbrev pub given_reply : Request → Extent → Result (List ℕ) Refusal → Reply
+given_reply r extent (Ok bytes) = reply.Content bytes extent
+given_reply r extent (Err why) = refusing r why None
+
+-- the bytes of an upload that a reply gives
+abbrev pub bytes_told : Reply → List ℕ
+bytes_told (reply.Content bytes extent) = bytes
+bytes_told _ = []
 
 -- the reply to a PATCH
 abbrev pub append_reply : Request → Result Appended Refused → Reply

@@ -1,12 +1,12 @@
 -- The step of a request on the plain book: its reply, and the book after it.
-use Rattle.std.specs.Prelude.{◌≡◌, ◌⊎◌, ℕ, length, Some, None, Result, Ok, Err, MatchBool}
+use Rattle.std.specs.Prelude.{◌≡◌, ◌≢◌, ◌<◌, ◌⊎◌, ℕ, [], length, Some, None, Result, Ok, Err, MatchBool}
 use Rattle.upload_book.specs.declared.head_row.Name.{Name}
 use Rattle.upload_book.specs.Operation.{Operation, Create, CreateWith, Concat, Look, Content, Append, Terminate, book_after_operation, MayLackMemory}
 use Rattle.upload_book.specs.declared.refusal.Refusal.{Refusal}
 use Rattle.upload_book.specs.declared.refusal.Refusal.TheVariants as refusal
 use Rattle.upload_book.specs.Append.{append_answer, append_lacking}
 use Rattle.upload_book.specs.Concat.{concat_answer}
-use Rattle.upload_book.specs.Content.{LacksRoom, content_answer}
+use Rattle.upload_book.specs.Content.{content_answer}
 use Rattle.upload_book.specs.Create.{create_answer, create_empty_answer}
 use Rattle.upload_book.specs.Look.{look_answer}
 use Rattle.upload_book.specs.PlainBook.{PlainBook, answer_of}
@@ -16,7 +16,7 @@ use Rattle.tus_steps.specs.declared.reply.Reply.{Reply}
 use Rattle.tus_steps.specs.declared.reply.Reply.TheVariants.{Options}
 use Rattle.tus_steps.specs.Operation.{operation_of}
 use Rattle.tus_steps.specs.Method.{is_options}
-use Rattle.tus_steps.specs.Reply.{refusing, creation_reply, head_reply, content_reply, append_reply, deletion_reply}
+use Rattle.tus_steps.specs.Reply.{bytes_told, refusing, creation_reply, head_reply, content_reply, append_reply, deletion_reply}
 use Rattle.tus_steps.specs.Request.{Request}
 
 -- the reply to a request for an operation, which the answer of the plain book determines
@@ -35,12 +35,17 @@ abbrev pub lacking_reply : PlainBook → Request → ℕ → Operation → Reply
 lacking_reply b r now (Append name chunk) = append_reply r (answer_of b name.tenant (append_lacking name.id now))
 lacking_reply b r now _ = refusing r refusal.Memory None
 
+-- the operation may lack memory; a GET only for bytes that it gives
+abbrev pub MayLackIn : PlainBook → Request → ℕ → Operation → Type 0
+MayLackIn b r now (Content name) = MayLackMemory b (Content name) now × (bytes_told (operation_reply b r now (Content name)) ≢ [])
+MayLackIn b r now op = MayLackMemory b op now
+
 -- The step of an operation: this reply, and this book after it. Where it may lack memory, and does, it is
 -- refused for that instead, and the book stays.
 abbrev pub IsOperationStep : PlainBook → Request → ℕ → Operation → Reply → PlainBook → Type 0
 IsOperationStep b r now op reply after =
     ((reply ≡ operation_reply b r now op) × (after ≡ book_after_operation b op now))
-    ⊎ (MayLackMemory b op now × (reply ≡ lacking_reply b r now op) × (after ≡ b))
+    ⊎ (MayLackIn b r now op × (reply ≡ lacking_reply b r now op) × (after ≡ b))
 
 -- the step of a request that asks for an operation, or for none for this reason
 abbrev pub IsStepBy : PlainBook → Request → ℕ → Result Operation Refusal → Reply → PlainBook → Type 0
@@ -58,5 +63,5 @@ IsStep b r now reply after =
 -- that are more bytes, that memory was lacking.
 abbrev pub IsContentReply : PlainBook → Request → ℕ → Name → ℕ → Reply → Type 0
 IsContentReply b r now name room reply =
-    let answer = answer_of b name.tenant (content_answer name.id now) in
-    IsAnswer (content_reply r answer) (LacksRoom room answer) (refusing r refusal.Memory None) reply
+    let answer = content_reply r (answer_of b name.tenant (content_answer name.id now)) in
+    IsAnswer answer (room < length (bytes_told answer)) (refusing r refusal.Memory None) reply

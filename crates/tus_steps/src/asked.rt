@@ -12,7 +12,7 @@ use crate::creation::PartIds;
 use crate::placed_reply::{PlacedReply, ReplyKind};
 use crate::request::Request;
 use crate::requested_change::ChangeOf;
-use upload_book::{Book, Change, Moment, Name, Refusal, Settings};
+use upload_book::{Begun, Book, Change, Moment, Name, Refusal, Settings};
 
 /// What a request asks for, as it is found before any book is at hand.
 #[derive(Drop)]
@@ -67,23 +67,23 @@ where
 }
 
 /// Answers a request that asks for no change, by what [`asked_of`] found of it under the book's settings: the reply is
-/// the plain book's at this moment, and the book stays. The upload of a HEAD or a GET is found by halving. The bytes of a
-/// GET are copied once, behind the first ones of them, which `begun` has. It is refused as Memory only where they are more
-/// than the capacity of `begun`, and get no more memory; nothing else takes memory.
+/// the plain book's at this moment, and the book stays. The upload of a HEAD or a GET is found by halving. The bytes that a
+/// GET gives are copied once; where `begun` has the first ones of them, behind these. It is refused as Memory only where they
+/// are more than the capacity of `begun`, and get no more memory; nothing else takes memory.
 pub fn answer_asked(
     book: &Book,
     request: &Request,
     asked: Asked,
     now: Moment,
-    begun: Vec<u8>,
+    begun: Begun,
     reply: &mut PlacedReply,
 )
     requires found { asked ≡ asked_in (plain_of book.now).settings request.now }
-    requires begun { (name : Name) → asked ≡ asks.Content name → IsBegun (plain_of book.now) name begun.items }
+    requires begun { (name : Name) → asked ≡ asks.Content name → IsBegun (plain_of book.now) name begun.first begun.bytes.items }
     requires stays { change_in asked ≡ None }
     ensures step { IsStep (plain_of book.now) request.now now (reply_in reply.new) (plain_of book.now) }
     ensures room { (name : Name) → asked.entry ≡ asks.Content name
-        → IsContentReply (plain_of book.now) request.now now name (vec_capacity begun) (reply_in reply.new) }
+        → IsContentReply (plain_of book.now) request.now now name (vec_capacity begun.bytes) (reply_in reply.new) }
 {
     match asked {
         Asked::Options => {
@@ -92,7 +92,32 @@ pub fn answer_asked(
         }
         Asked::Refused(refusal) => reply.refuse(request, refusal, None),
         Asked::Look(name) => reply.put_head(book.look_lent(&name, now)),
-        Asked::Content(name) => reply.put_content(request, book.content(&name, now, begun)),
+        Asked::Content(name) => answer_content(book, request, &name, now, begun, reply),
         Asked::Change(_) => unreachable!("a change is made, and not only answered"),
+    }
+}
+
+// Answers a GET of the upload of this name.
+fn answer_content(
+    book: &Book,
+    request: &Request,
+    name: &Name,
+    now: Moment,
+    begun: Begun,
+    reply: &mut PlacedReply,
+)
+    requires { IsBegun (plain_of book.now) name.now begun.first begun.bytes.items }
+    ensures { IsContentReply (plain_of book.now) request.now now name.now (vec_capacity begun.bytes) (reply_in reply.new) }
+{
+    let len = match book.content_len(name, now) {
+        Ok(len) => len,
+        Err(refusal) => return reply.refuse(request, refusal, None),
+    };
+    match request.range.extent(len) {
+        Some(extent) => {
+            let content = book.content(name, now, extent.span(len), begun);
+            reply.put_content(request, extent, content);
+        }
+        None => reply.kind = ReplyKind::Unsatisfiable { len },
     }
 }

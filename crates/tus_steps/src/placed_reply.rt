@@ -3,8 +3,9 @@ ghost use Rattle.tus_steps.specs.Changing.{change_reply};
 ghost use Rattle.tus_steps.specs.declared.reply.Reply.TheVariants.{Deleted};
 ghost use Rattle.tus_steps.specs.InPieces.{as_creation, created_in, is_patched};
 ghost use Rattle.tus_steps.specs.PlacedReply.{reply_in};
-ghost use Rattle.tus_steps.specs.Reply.{content_reply, creation_reply, head_reply, refusing};
+ghost use Rattle.tus_steps.specs.Reply.{creation_reply, given_reply, head_reply, refusing};
 
+use crate::range::Extent;
 use crate::reply::{PathKind, Reply};
 use crate::request::Request;
 use tus_text::{Path, Tenant, Text};
@@ -29,8 +30,16 @@ pub enum ReplyKind {
     /// 200: what stands of the upload.
     Head,
 
-    /// 200: the bytes of the upload.
-    Content(Content),
+    /// 200 or 206: these bytes of the upload.
+    Content {
+        bytes: Content,
+        extent: Extent,
+    },
+
+    /// 416: the range that was asked for has none of the upload's bytes.
+    Unsatisfiable {
+        len: u64,
+    },
 
     /// 204: the bytes were taken.
     Patched {
@@ -91,7 +100,8 @@ impl PlacedReply {
                 row = told;
                 ReplyKind::Head
             }
-            Reply::Content(content) => ReplyKind::Content(content),
+            Reply::Content { bytes, extent } => ReplyKind::Content { bytes, extent },
+            Reply::Unsatisfiable { len } => ReplyKind::Unsatisfiable { len },
             Reply::Patched { offset, expires } => ReplyKind::Patched { offset, expires },
             Reply::Deleted => ReplyKind::Deleted,
             Reply::Refused {
@@ -127,7 +137,8 @@ impl PlacedReply {
                 expires,
             },
             ReplyKind::Head => Reply::Head(self.row),
-            ReplyKind::Content(content) => Reply::Content(content),
+            ReplyKind::Content { bytes, extent } => Reply::Content { bytes, extent },
+            ReplyKind::Unsatisfiable { len } => Reply::Unsatisfiable { len },
             ReplyKind::Patched { offset, expires } => Reply::Patched { offset, expires },
             ReplyKind::Deleted => Reply::Deleted,
             ReplyKind::Refused {
@@ -189,12 +200,17 @@ impl PlacedReply {
         };
     }
 
-    /// Answers a GET.
-    pub fn put_content(&mut self, request: &Request, outcome: Result<Content, Refusal>)
-        ensures { reply_in self.new ≡ content_reply request.now outcome }
+    /// Answers a GET by these bytes of the upload, or by why it is refused.
+    pub fn put_content(
+        &mut self,
+        request: &Request,
+        extent: Extent,
+        outcome: Result<Content, Refusal>,
+    )
+        ensures { reply_in self.new ≡ given_reply request.now extent outcome }
     {
         match outcome {
-            Ok(content) => self.kind = ReplyKind::Content(content),
+            Ok(bytes) => self.kind = ReplyKind::Content { bytes, extent },
             Err(refusal) => self.refuse(request, refusal, None),
         }
     }

@@ -1,3 +1,4 @@
+use crate::range::Extent;
 use crate::request::Request;
 use tus_text::Tenant;
 use upload_book::{Content, HeadRow, Moment, Refusal};
@@ -33,8 +34,16 @@ pub enum Reply {
     /// 200: what stands of the upload.
     Head(HeadRow),
 
-    /// 200: the bytes of the upload.
-    Content(Content),
+    /// 200 or 206: these bytes of the upload.
+    Content {
+        bytes: Content,
+        extent: Extent,
+    },
+
+    /// 416: of the upload's `len` bytes the range that was asked for has none.
+    Unsatisfiable {
+        len: u64,
+    },
 
     /// 204: the bytes were taken. The upload has `offset` bytes now, and expires then, if it does.
     Patched {

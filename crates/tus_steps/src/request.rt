@@ -5,6 +5,7 @@ use crate::asked::Asked;
 use crate::creation::PartIds;
 use crate::field::Field;
 use crate::method::Method;
+use crate::range::RangeAsked;
 use crate::reply::PathKind;
 use crate::tus_fields::TusFields;
 use std::marker::Model;
@@ -23,6 +24,8 @@ pub struct Request<'a> {
     /// What the target names.
     pub path: Path,
     pub fields: TusFields<Field<'a>>,
+    /// Which bytes a GET asks for. No other method looks at it.
+    pub range: RangeAsked,
     pub body: &'a [u8],
     /// How many bytes of the body were given before these, where it comes in pieces; else 0.
     pub given: u64,
@@ -41,6 +44,7 @@ impl<'a> Model for Request<'a> {
       method = r.method;
       path = r.path;
       fields = map_fields text_of r.fields;
+      range = r.range;
       body = r.body.now;
       given = r.given;
       more = r.more;
@@ -93,6 +97,7 @@ impl<'a> Request<'a> {
                 offset: Field::One(b"0"),
                 ..self.fields
             },
+            range: self.range,
             body: self.body,
             given: self.given,
             more: self.more,

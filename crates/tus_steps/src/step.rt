@@ -40,7 +40,7 @@ pub fn answer_in_place(book: &mut Book, request: &Request, now: Moment, reply: &
             let outcome = make(book, asked.change, now);
             reply.put_change(request, offset, outcome);
         }
-        asked => answer_asked(book, request, asked, now, book.no_room(), reply),
+        asked => answer_asked(book, request, asked, now, book.none_begun(), reply),
     }
 }
 

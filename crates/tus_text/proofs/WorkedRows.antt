@@ -6,6 +6,8 @@ use Rattle.tus_text.specs.Concat.{concat_of, final_of}
 use Rattle.tus_text.specs.Number.{number_of}
 use Rattle.tus_text.specs.declared.path.Path.TheVariants.{Create, Upload, Other}
 use Rattle.tus_text.specs.Path.{path_of}
+use Rattle.tus_text.specs.Range.{byte_range_of}
+use Rattle.tus_text.specs.declared.range.ByteRange.TheVariants.{Between, From, Last}
 use Rattle.tus_text.specs.Date.{span_of, date_parts, expires_text}
 use Rattle.base64.specs.Decode.{groups_error, scan_steps}
 use Rattle.tus_text.specs.Cut.{trim_spaces}
@@ -54,3 +56,13 @@ pub concats : (concat_of (codes "partial") ≡ Some Partial)
     × (concat_of (codes "final;/files/acme/1 x") ≡ None)
 unfolding number_of path_of final_of concat_of
 concats = (refl, refl, refl, refl, refl, refl, refl, refl, refl)
+
+-- the first five are of RFC 9110, section 14.1.2
+pub ranges : (byte_range_of (codes "bytes=0-499") ≡ Some (Between 0 499)) × (byte_range_of (codes "bytes=500-999") ≡ Some (Between 500 999))
+    × (byte_range_of (codes "bytes=-500") ≡ Some (Last 500)) × (byte_range_of (codes "bytes=9500-") ≡ Some (From 9500))
+    × (byte_range_of (codes "bytes=0-0,-1") ≡ None) × (byte_range_of (codes "BYTES=00-0") ≡ Some (Between 0 0))
+    × (byte_range_of (codes "bytes=-0") ≡ Some (Last 0)) × (byte_range_of (codes "bytes=1-0") ≡ None)
+    × (byte_range_of (codes "bytes=-") ≡ None) × (byte_range_of (codes "bytes=5") ≡ None) × (byte_range_of (codes "bytes= 0-5") ≡ None)
+    × (byte_range_of (codes "bytes=1-2-3") ≡ None) × (byte_range_of (codes "seconds=1-2") ≡ None)
+unfolding number_of
+ranges = (refl, refl, refl, refl, refl, refl, refl, refl, refl, refl, refl, refl, refl)

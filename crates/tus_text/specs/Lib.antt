@@ -5,4 +5,5 @@ pub mod Date
 pub mod Metadata
 pub mod Number
 pub mod Path
+pub mod Range
 pub mod Tenant

@@ -9,6 +9,7 @@ mod date;
 mod metadata;
 mod number;
 mod path;
+mod range;
 mod tenant;
 mod text;
 
@@ -18,5 +19,6 @@ pub use date::{LAST_SECOND, read_expires, write_expires};
 pub use metadata::{METADATA_MAX, check_metadata};
 pub use number::read_number;
 pub use path::{Path, read_path};
+pub use range::{ByteRange, read_byte_range};
 pub use tenant::is_tenant_name;
 pub use text::{TENANT_MAX, Tenant, Text};

@@ -4,6 +4,7 @@ ghost use Rattle.block_pool.specs.Blocks.{IsWithinLimits, all_free, free_in, siz
 ghost use Rattle.upload_book.specs.Account.{blocks_between};
 ghost use Rattle.upload_book.specs.Charge.{charge_with};
 ghost use Rattle.upload_book.specs.Concat.{are_complete, are_there, final_upload, joined_len, parts_found};
+ghost use Rattle.upload_book.specs.Content.{bytes_at};
 ghost use Rattle.upload_book.specs.Create.{new_kind, upload_from};
 ghost use Rattle.upload_book.specs.Ready.{IsListed};
 ghost use Rattle.upload_book.specs.inside.FinalBack.{AreRoomsFor, brought_in, left_with, sent_len};
@@ -26,6 +27,7 @@ ghost use Rattle.upload_book.specs.inside.Texts.{IsTextsFor};
 ghost use Rattle.upload_book.specs.TenantBook.{visible_upload, with_new, with_next};
 ghost use Rattle.upload_book.specs.Upload.{content_of, head_row_of, offset_of};
 
+use crate::content::ByteSpan;
 use crate::create::NewUpload;
 use crate::final_back::Left;
 use crate::head_row::Name;
@@ -246,21 +248,23 @@ impl BlockStore {
         self.stored_tenants[tenant].uploads[place].progress()
     }
 
-    /// The bytes of the upload at a place, whose first ones are there already; the others are copied once behind them. The error
-    /// is that the vector has too little room for all and got no more.
+    /// These bytes of the upload at a place, whose first ones are there already; the others are copied once behind them. The
+    /// error is that the vector has too little room for all and got no more.
     pub(crate) fn read(
         &self,
         tenant: usize,
         place: usize,
+        span: ByteSpan,
         begun: Vec<u8>,
     ) -> Result<Vec<u8>, AllocError>
         requires tenant { tenant < length self.now.stored_tenants }
         requires place { place < length (stored_tenant_at self.now tenant).uploads }
-        requires begun { begun.items ≡ take (length begun.items) (content_of (upload_at self.now tenant place)) }
-        ensures bytes { IfOk result (λ v. v.items ≡ content_of (upload_at self.now tenant place)) }
-        ensures lacking { OnErr result (vec_capacity begun < length (content_of (upload_at self.now tenant place))) }
+        requires begun { begun.items ≡ take (length begun.items) (drop span.first (content_of (upload_at self.now tenant place))) }
+        requires few { length begun.items ≤ span.count }
+        ensures bytes { IfOk result (λ v. v.items ≡ bytes_at span (content_of (upload_at self.now tenant place))) }
+        ensures lacking { OnErr result (vec_capacity begun < length (bytes_at span (content_of (upload_at self.now tenant place)))) }
     {
-        self.stored_tenants[tenant].uploads[place].read(&self.pool, begun)
+        self.stored_tenants[tenant].uploads[place].read(&self.pool, span, begun)
     }
 
     /// Bytes of the upload at a place from an offset on, copied once onto the end of `bytes`: as many as `count`, for which it

@@ -1,7 +1,7 @@
-ghost use Rattle.std.specs.Prelude.{◌≡◌, ◌-◌, ◌≤◌, [], Err, min, vec_capacity, vec_len};
+ghost use Rattle.std.specs.Prelude.{◌≡◌, ◌⊎◌, ◌-◌, ◌≤◌, [], Err, length, min, vec_capacity, vec_len};
 ghost use Rattle.upload_book.specs.Begun.{IsBegun, with_more};
 ghost use Rattle.upload_book.specs.Book.{plain_of};
-ghost use Rattle.upload_book.specs.Content.{LacksRoom, content_answer};
+ghost use Rattle.upload_book.specs.Content.{LacksRoom, content_answer, len_answer, span_answer};
 ghost use Rattle.upload_book.specs.PlainBook.{answer_of};
 ghost use Rattle.upload_book.specs.Refusal.{IsAnswer};
 
@@ -10,6 +10,47 @@ use crate::head_row::Name;
 use crate::moment::Moment;
 use crate::refusal::Refusal;
 use std::marker::Model;
+
+/// Which bytes of an upload: at most so many, from a place on.
+#[derive(Clone, Copy, Debug, PartialEq, Eq)]
+pub struct ByteSpan {
+    /// The place of the first, from 0.
+    pub first: u64,
+    /// How many, where the upload has as many from there on; else all that it has.
+    pub count: u64,
+}
+
+impl ByteSpan {
+    /// So many bytes from the start of an upload.
+    pub fn front(count: u64) -> ByteSpan
+        ensures { result ≡ record { first = 0; count = count } }
+    {
+        ByteSpan { first: 0, count }
+    }
+}
+
+/// Bytes that were copied out of an upload before the rest of what a GET gives.
+#[derive(Drop)]
+pub struct Begun {
+    /// The place of the first of them in the upload, from 0.
+    pub first: u64,
+    pub bytes: Vec<u8>,
+}
+
+impl Begun {
+    // Those of them that begin this span: all, or none where they begin elsewhere or are more. The room stays.
+    fn of_span(self, span: ByteSpan) -> Vec<u8>
+        ensures bytes { (result.items ≡ []) ⊎ ((result.items ≡ self.bytes.items) × (self.first ≡ span.first)) }
+        ensures few { length result.items ≤ span.count }
+        ensures room { vec_capacity result ≡ vec_capacity self.bytes }
+    {
+        let mut bytes = self.bytes;
+        if self.first != span.first || bytes.len() as u64 > span.count {
+            bytes.clear();
+        }
+        bytes
+    }
+}
 
 /// The bytes of an upload, copied out of the book. A contract sees the list of them.
 #[derive(Drop)]
@@ -49,19 +90,38 @@ impl Content {
 }
 
 impl Book {
-    /// What a GET of an upload gives at `now`: its bytes. Those that `begun` has are its first ones, and the others are copied
-    /// once behind them. Memory is taken only where its capacity is less than all of them; whoever reserved it before
-    /// a lock was taken takes none under it.
+    /// How many bytes a GET of an upload gives at `now`, where it asks for all; they never change. It is refused as
+    /// [`Book::content`] is, but for Memory.
+    pub fn content_len(&self, name: &Name, now: Moment) -> Result<u64, Refusal>
+        ensures { result ≡ answer_of (plain_of self.now) name.now.tenant (len_answer name.now.id now) }
+    {
+        let place = self.store.place(name, now)?;
+        let progress = self.store.progress(usize::from(name.tenant), place);
+        if !progress.is_complete() {
+            return Err(Refusal::Unfinished);
+        }
+        Ok(progress.offset)
+    }
+
+    /// What a GET of these bytes of an upload gives at `now`. Where `begun` has the first ones of them, the others are copied
+    /// once behind these; else all are. Memory is taken only where its capacity is less than all of them; whoever reserved it
+    /// before a lock was taken takes none under it.
     ///
     /// It is refused by the first of these that applies: Unknown where the id was never given, Gone
     /// where the upload has ended or expired, and Unfinished where the upload does not have all of its
     /// bytes; and where none of them does, as Memory where the vector has too little room and got no more.
-    /// An upload without bytes needs none.
-    pub fn content(&self, name: &Name, now: Moment, begun: Vec<u8>) -> Result<Content, Refusal>
-        requires begun { IsBegun (plain_of self.now) name.now begun.items }
+    /// No bytes need no room.
+    pub fn content(
+        &self,
+        name: &Name,
+        now: Moment,
+        span: ByteSpan,
+        begun: Begun,
+    ) -> Result<Content, Refusal>
+        requires begun { IsBegun (plain_of self.now) name.now begun.first begun.bytes.items }
         ensures { IsAnswer
-            (answer_of (plain_of self.now) name.now.tenant (content_answer name.now.id now))
-            (LacksRoom (vec_capacity begun) (answer_of (plain_of self.now) name.now.tenant (content_answer name.now.id now)))
+            (answer_of (plain_of self.now) name.now.tenant (span_answer span name.now.id now))
+            (LacksRoom (vec_capacity begun.bytes) (answer_of (plain_of self.now) name.now.tenant (span_answer span name.now.id now)))
             (Err Refusal.Memory) result }
     {
         let place = self.store.place(name, now)?;
@@ -69,21 +129,22 @@ impl Book {
         if !self.store.progress(tenant, place).is_complete() {
             return Err(Refusal::Unfinished);
         }
-        match self.store.read(tenant, place, begun) {
+        match self.store.read(tenant, place, span, begun.of_span(span)) {
             Ok(bytes) => Ok(Content::of(bytes)),
             Err(_) => Err(Refusal::Memory),
         }
     }
 
-    /// Copies the next bytes of an upload behind its first ones, which `begun` has: at most `most`, and as many as there is room
+    /// Copies the next bytes of an upload behind those that `begun` has: at most `most`, and as many as there is room
     /// for. Where a GET at `now` is refused, it copies none. So the bytes of a GET can be copied piece by piece, with changes
     /// between, before [`Book::content`] gives them. It takes no memory.
-    pub fn read_ahead(&self, name: &Name, now: Moment, begun: &mut Vec<u8>, most: usize)
-        requires begun { IsBegun (plain_of self.now) name.now begun.old.items }
-        ensures begins { IsBegun (plain_of self.now) name.now begun.new.items }
-        ensures more { begun.new.items ≡ with_more (answer_of (plain_of self.now) name.now.tenant (content_answer name.now.id now))
-            (min most (vec_capacity begun.old - vec_len begun.old)) begun.old.items }
-        ensures room { vec_capacity begun.old ≤ vec_capacity begun.new }
+    pub fn read_ahead(&self, name: &Name, now: Moment, begun: &mut Begun, most: usize)
+        requires begun { IsBegun (plain_of self.now) name.now begun.old.first begun.old.bytes.items }
+        ensures begins { IsBegun (plain_of self.now) name.now begun.new.first begun.new.bytes.items }
+        ensures more { begun.new.bytes.items ≡ with_more (answer_of (plain_of self.now) name.now.tenant (content_answer name.now.id now))
+            begun.old.first (min most (vec_capacity begun.old.bytes - vec_len begun.old.bytes)) begun.old.bytes.items }
+        ensures first { begun.new.first ≡ begun.old.first }
+        ensures room { vec_capacity begun.old.bytes ≤ vec_capacity begun.new.bytes }
     {
         let Ok(place) = self.store.place(name, now) else {
             return;
@@ -92,13 +153,24 @@ impl Book {
         if !self.store.progress(tenant, place).is_complete() {
             return;
         }
-        let done = begun.len();
-        let count = most.min(begun.capacity() - done);
+        let done = begun.bytes.len();
+        let count = most.min(begun.bytes.capacity() - done);
+        let offset = begun.first.saturating_add(done as u64);
         self.store
-            .read_onto(tenant, place, done as u64, count, begun);
+            .read_onto(tenant, place, offset, count, &mut begun.bytes);
     }
 
-    /// A vector without room, for a GET for which nobody reserved any.
+    /// Nothing of an upload, for a GET for which nobody reserved room.
+    pub fn none_begun(&self) -> Begun
+        ensures { (result.first ≡ 0) × (result.bytes.items ≡ []) }
+    {
+        Begun {
+            first: 0,
+            bytes: self.no_room(),
+        }
+    }
+
+    /// A vector without room.
     pub fn no_room(&self) -> Vec<u8>
         ensures { result.items ≡ [] }
     {

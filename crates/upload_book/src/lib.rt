@@ -47,7 +47,7 @@ pub use board_line::{Accounts, BoardLine, HeadChange};
 pub use book::Book;
 pub use change::{Change, Outcome};
 pub use concat::NewFinal;
-pub use content::Content;
+pub use content::{Begun, ByteSpan, Content};
 pub use create::{Created, FirstChunk, NewUpload};
 pub use expiry_list::Expiring;
 pub use head_note::{Growth, HeadNote, NotedChange};

@@ -5,7 +5,7 @@ ghost use Rattle.upload_book.specs.PlainBook.{answer_of};
 ghost use Rattle.upload_book.specs.Refusal.{IsAnswer};
 
 use crate::book::Book;
-use crate::content::Content;
+use crate::content::{ByteSpan, Content};
 use crate::head_row::Name;
 use crate::moment::Moment;
 use crate::refusal::Refusal;
@@ -24,8 +24,9 @@ impl Book {
     {
         let place = self.store.place(name, now)?;
         let tenant = usize::from(name.tenant);
+        let all = ByteSpan::front(self.store.progress(tenant, place).offset);
         room.clear();
-        match self.store.read(tenant, place, room) {
+        match self.store.read(tenant, place, all, room) {
             Ok(bytes) => Ok(Content::of(bytes)),
             Err(_) => Err(Refusal::Memory),
         }

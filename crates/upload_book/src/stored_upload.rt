@@ -4,6 +4,7 @@ ghost use Rattle.block_bodies.specs.Bodies.{HasRoom, IsBodyOf, IsHeld, IsLastOwn
 ghost use Rattle.block_bodies.specs.Changes.{Puts, GivesBack};
 ghost use Rattle.upload_book.specs.Charge.{price};
 ghost use Rattle.upload_book.specs.Concat.{is_partial};
+ghost use Rattle.upload_book.specs.Content.{bytes_at};
 ghost use Rattle.upload_book.specs.Create.{new_kind};
 ghost use Rattle.upload_book.specs.declared.head_row.Kind.TheVariants.{Final};
 ghost use Rattle.upload_book.specs.declared.pieces.Piece.{Piece};
@@ -20,6 +21,7 @@ ghost use Rattle.upload_book.specs.Upload.{head_row_of, is_complete, content_of 
 
 use crate::charge_after::Ended;
 use crate::concat::NewFinal;
+use crate::content::ByteSpan;
 use crate::create::NewUpload;
 use crate::expiry::has_expired;
 use crate::head_note::Growth;
@@ -231,20 +233,28 @@ impl StoredUpload {
         }
     }
 
-    /// The bytes of the upload, whose first ones are there already; the others are copied once out of the pool behind them. The
-    /// error is that the vector has too little room for all and got no more.
-    pub(crate) fn read(&self, pool: &Pool, begun: Vec<u8>) -> Result<Vec<u8>, AllocError>
+    /// These bytes of the upload, whose first ones are there already; the others are copied once out of the pool behind them.
+    /// The error is that the vector has too little room for all and got no more.
+    pub(crate) fn read(
+        &self,
+        pool: &Pool,
+        span: ByteSpan,
+        begun: Vec<u8>,
+    ) -> Result<Vec<u8>, AllocError>
         requires bodies { AreBodies pool.now self.now.kept.pieces }
         requires whole { ReadsWhole pool.now self.now.kept.pieces }
-        requires begun { begun.items ≡ take (length begun.items) (upload_content_of (upload_of pool.now self.now.kept)) }
-        ensures bytes { IfOk result (λ v. v.items ≡ upload_content_of (upload_of pool.now self.now.kept)) }
-        ensures lacking { OnErr result (vec_capacity begun < pieces_len self.now.kept.pieces) }
+        requires begun { begun.items ≡ take (length begun.items) (drop span.first (upload_content_of (upload_of pool.now self.now.kept))) }
+        requires few { length begun.items ≤ span.count }
+        ensures bytes { IfOk result (λ v. v.items ≡ bytes_at span (upload_content_of (upload_of pool.now self.now.kept))) }
+        ensures lacking { OnErr result (vec_capacity begun < length (bytes_at span (upload_content_of (upload_of pool.now self.now.kept)))) }
     {
         let mut bytes = begun;
         let done = bytes.len();
-        let left = (self.offset() as usize).saturating_sub(done);
+        let all = span.count.min(self.offset().saturating_sub(span.first));
+        let left = (all as usize).saturating_sub(done);
         bytes.reserve_exact(left)?;
-        self.read_onto(pool, done as u64, left, &mut bytes);
+        let offset = span.first.saturating_add(done as u64);
+        self.read_onto(pool, offset, left, &mut bytes);
         Ok(bytes)
     }
 

@@ -1,7 +1,7 @@
 -- Uploads as they are kept: which have a piece of their own, and their bytes and parts as the plain book has them.
-use Rattle.std.proofs.Common.{◌≡◌, ◌≢◌, ℕ, ◌+◌, ◌-◌, drop, take, rules, append_assoc, List, [], ◌∷◌, ◌++◌, map, length, refl, ap, ap₂, sym, ◌∙◌, subst, arith, length-append, length-drop}
+use Rattle.std.proofs.Common.{◌≡◌, ◌≢◌, ℕ, ◌+◌, ◌-◌, ◌≤◌, drop, min, take, rules, append_assoc, List, [], ◌∷◌, ◌++◌, map, length, refl, ap, sym, ◌∙◌, subst, arith, length-append, length-drop, length-take}
 use Rattle.std.specs.List.{All, flat_map}
-use Rattle.std.proofs.lemmas.List.{places, same_lists, take_all, take-append-drop}
+use Rattle.std.proofs.lemmas.List.{places, same_lists}
 use Rattle.std.proofs.lemmas.List.Sums.{sum_by-cons}
 use Rattle.block_pool.specs.Blocks.{Blocks}
 use Rattle.block_bodies.specs.Bodies.{Chain, content_of}
@@ -70,8 +70,19 @@ range-more front next before read offset count left skipped is passed rest =
     let few : left ≡ count - length (take count (drop offset front)) = omega (arith, ap (λ (bytes : List ℕ). length bytes) is, length-append before (take count (drop offset front))) in
     rw (few, passed, is) (append_assoc before _ _ ∙ ap (λ (bytes : List ℕ). before ++ bytes) (range-both front next offset count))
 
--- the first bytes of a text, and the rest of it
-pub range-rest : (content begun : List ℕ) (done left : ℕ) → begun ≡ take (length begun) content → done ≡ length begun → left ≡ length content - done → begun ++ take left (drop done content) ≡ content
-range-rest content begun done left is at rest =
-    let all : take left (drop done content) ≡ drop done content = take_all left (drop done content) (omega (arith, length-drop done content)) in
-    ap (λ (bytes : List ℕ). begun ++ bytes) all ∙ ap₂ (λ (front bytes : List ℕ). front ++ bytes) is (ap (λ (n : ℕ). drop n content) at) ∙ take-append-drop (length begun) content
+-- some bytes of a text that lie together are the first of them, and the others
+span-parts : (content : List ℕ) (first count done left : ℕ) → done ≤ count → done ≤ length content - first → left ≡ min count (length content - first) - done
+    → take done (drop first content) ++ take left (drop (first + done) content) ≡ take count (drop first content)
+span-parts content first count done left few within rest = same_lists _ _ (search (rules, places)) (λ i d l. grind (arith, places))
+
+-- how many these are
+pub span-len : (content : List ℕ) (first count : ℕ) → length (take count (drop first content)) ≡ min count (length content - first)
+span-len content first count = length-take count (drop first content) ∙ ap (min count) (length-drop first content)
+
+-- the same where the first of them were there already
+pub span-rest : (content begun : List ℕ) (first count done left offset : ℕ) → begun ≡ take (length begun) (drop first content) → length begun ≤ count → done ≡ length begun
+    → left ≡ min count (length content - first) - done → offset ≡ first + done → begun ++ take left (drop offset content) ≡ take count (drop first content)
+span-rest content begun first count done left offset is few at rest place =
+    let within : length begun ≡ min (length begun) (length content - first) = ap (λ (bytes : List ℕ). length bytes) is ∙ span-len content first (length begun) in
+    rw (place, at) (ap (λ (bytes : List ℕ). bytes ++ take left (drop (first + length begun) content)) is
+    ∙ span-parts content first count (length begun) left few (omega (arith, within)) (omega (arith, rest, at)))

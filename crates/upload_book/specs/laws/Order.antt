@@ -32,6 +32,7 @@ order =
     ∷ codes "part"  -- a part of a final upload is no visible partial upload of its tenant
     ∷ codes "part-open"  -- a part of a final upload does not have all of its bytes
     ∷ codes "unfinished"  -- a GET of an upload that does not have all of its bytes
+    ∷ codes "range"  -- a GET of a range of bytes of which the upload has none
     ∷ codes "uploads"  -- the tenant has as many uploads as the book keeps for one
     ∷ codes "spent"  -- the tenant's ids are used up, or the blocks that all tenants may be charged in all
     ∷ codes "quota"  -- the tenant would pay for more blocks than its quota

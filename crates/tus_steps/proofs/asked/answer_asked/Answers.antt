@@ -1,5 +1,6 @@
 use Rattle.std.proofs.Common.{vec_capacity, sym, ◌∙◌}
 use Rattle.upload_book.specs.Book.{plain_of}
+use Rattle.tus_steps.specs.PlacedReply.{reply_in}
 use Rattle.tus_steps.proofs.AskedLemmas.{content-step, look-step, refused-step}
 use Rattle.tus_steps.proofs.asked.answer_asked.Goals as goal
 
@@ -13,4 +14,4 @@ returns-in-Look-clause-step c =
 
 pub returns-in-Content-clause-step : goal.returns-in-Content-clause-step
 returns-in-Content-clause-step c =
-    rw c.put_content.ensures (content-step (plain_of c.args.book.now) c.args.request.now c.args.now c.in-Content.name (vec_capacity c.args.begun) c.content.result (sym c.in-Content.is ∙ c.requires.found) c.content.ensures)
+    content-step (plain_of c.args.book.now) c.args.request.now c.args.now c.in-Content.name (vec_capacity c.args.begun.bytes) (reply_in c.answer_content.new.reply) (sym c.in-Content.is ∙ c.requires.found) c.answer_content.ensures

@@ -1,7 +1,7 @@
-use Rattle.std.proofs.Common.{◌≡◌, length, take, sym, ap, subst, ◌∙◌}
-use Rattle.std.specs.Result.{IfOk}
-use Rattle.upload_book.specs.Upload.{Upload, content_of, offset_of}
-use Rattle.upload_book.proofs.Store.OwnLemmas.{offset-whole}
+use Rattle.std.proofs.Common.{◌≡◌, ◌<◌, drop, length, take, sym, subst, vec_capacity}
+use Rattle.std.specs.Result.{IfOk, OnErr}
+use Rattle.upload_book.specs.Content.{bytes_at}
+use Rattle.upload_book.specs.Upload.{Upload, content_of}
 use Rattle.upload_book.proofs.Store.StoreLemmas.{IsPart-read, IsEntry-read, bodies-entry, reads-entry, upload_at-read}
 use Rattle.upload_book.proofs.block_store.BlockStore.read.Goals as goal
 
@@ -21,20 +21,19 @@ pub read-requires-clause-begun : goal.read-requires-clause-begun
 read-requires-clause-begun c =
     let part = IsPart-read c.self.inside c.args.self.now c.args.tenant c.index.result.now c.self.view_is c.requires.tenant c.index.ensures in
     let entry = IsEntry-read c.self.inside c.args.self.now c.args.tenant c.args.place c.index.result.now c.index-2.result.now c.self.view_is part c.requires.place c.index-2.ensures in
-    let P : Upload → Type 0 = λ u. c.args.begun.items ≡ take (length c.args.begun.items) (content_of u) in
+    let P : Upload → Type 0 = λ u. c.args.begun.items ≡ take (length c.args.begun.items) (drop c.args.span.first (content_of u)) in
     subst P (upload_at-read c.self.inside c.args.self.now c.args.tenant c.args.place c.index.result.now c.index-2.result.now c.self.view_is part entry) c.requires.begun
 
 pub returns-clause-lacking : goal.returns-clause-lacking
 returns-clause-lacking c =
     let part = IsPart-read c.self.inside c.args.self.now c.args.tenant c.index.result.now c.self.view_is c.requires.tenant c.index.ensures in
     let entry = IsEntry-read c.self.inside c.args.self.now c.args.tenant c.args.place c.index.result.now c.index-2.result.now c.self.view_is part c.requires.place c.index-2.ensures in
-    let whole = reads-entry c.self.inside c.args.tenant c.args.place c.index.result.now c.index-2.result.now c.self.invariant part entry in
-    let len = sym (offset-whole c.self.inside.pool c.index-2.result.now.kept whole) ∙ ap offset_of (sym (upload_at-read c.self.inside c.args.self.now c.args.tenant c.args.place c.index.result.now c.index-2.result.now c.self.view_is part entry)) in
-    rw len at c.read.ensures.lacking
+    let P : Upload → Type 0 = λ u. OnErr c.read.result (vec_capacity c.args.begun < length (bytes_at c.args.span (content_of u))) in
+    subst P (sym (upload_at-read c.self.inside c.args.self.now c.args.tenant c.args.place c.index.result.now c.index-2.result.now c.self.view_is part entry)) c.read.ensures.lacking
 
 pub returns-clause-bytes : goal.returns-clause-bytes
 returns-clause-bytes c =
     let part = IsPart-read c.self.inside c.args.self.now c.args.tenant c.index.result.now c.self.view_is c.requires.tenant c.index.ensures in
     let entry = IsEntry-read c.self.inside c.args.self.now c.args.tenant c.args.place c.index.result.now c.index-2.result.now c.self.view_is part c.requires.place c.index-2.ensures in
-    let P : Upload → Type 0 = λ u. IfOk c.read.result (λ v. v.items ≡ content_of u) in
+    let P : Upload → Type 0 = λ u. IfOk c.read.result (λ v. v.items ≡ bytes_at c.args.span (content_of u)) in
     subst P (sym (upload_at-read c.self.inside c.args.self.now c.args.tenant c.args.place c.index.result.now c.index-2.result.now c.self.view_is part entry)) c.read.ensures.bytes
