@@ -9,14 +9,14 @@ use Rattle.http_wire.specs.Turns.{Answered, Breaks, BreaksOff, Converses, FailsI
 use Rattle.http_wire.specs.declared.conversation.Ended.{Ended}
 use Rattle.http_wire.specs.declared.fault.WireFault.{WireFault}
 use Rattle.http_wire.specs.declared.fault.WireFault.TheVariants.{Read, Write, Memory, Failed}
-use Rattle.http_wire.specs.declared.body_limits.BodyLimits.{BodyLimits}
+use Rattle.http_wire.specs.declared.request_limits.RequestLimits.{RequestLimits}
 
 -- the exchange with what it stands for
 abbrev pub carried : {A B : Type 0} → (A → B) → Exchange A → Exchange B
 carried f x = record { input = x.input; text = x.text; before = f x.before; after = f x.after }
 
 module _ {A B : Type 0} (f : A → B) (steps : A → Request → ℕ → Reply → A → Type 0) (others : B → Request → ℕ → Reply → B → Type 0)
-    (carries : (a : A) (r : Request) (now : ℕ) (reply : Reply) (b : A) → steps a r now reply b → others (f a) r now reply (f b)) (limits : BodyLimits) where
+    (carries : (a : A) (r : Request) (now : ℕ) (reply : Reply) (b : A) → steps a r now reply b → others (f a) r now reply (f b)) (limits : RequestLimits) where
   EndsWith-carried : (ends : Ended) (last : List ℕ) (x : Exchange A) (e : Ended) → EndsWith ends last x e → EndsWith ends last (carried f x) e
   EndsWith-carried ends last x e h = record { ended = h.ended; text = h.text; same = ap f h.same }
 

@@ -16,7 +16,7 @@ use Rattle.http_wire.specs.declared.fault.WireFault.{WireFault}
 use Rattle.http_wire.specs.declared.framing.Framing.{Framing}
 use Rattle.http_wire.specs.declared.fault.WireFault.TheVariants.{Read, Write, Memory, Failed}
 use Rattle.http_wire.proofs.NextMessageLemmas.{IsNextMessage-followed}
-use Rattle.http_wire.specs.declared.body_limits.BodyLimits.{BodyLimits}
+use Rattle.http_wire.specs.declared.request_limits.RequestLimits.{RequestLimits}
 
 -- one moment more that a clock told
 pub Tells-more : {C : Type 0} (tells : C → ℕ → C → Type 0) (before : C) (moments : List ℕ) (middle : C) (now : ℕ) (after : C) → Tells tells before moments middle → tells middle now after → Tells tells before (moments ++ now ∷ []) after
@@ -55,7 +55,7 @@ MayRemain-read ended.Closed rest h = tt
 MayRemain-read ended.Cut rest h = h
 MayRemain-read ended.Moments rest h = tt
 
-module _ {A : Type 0} (steps : A → Request → ℕ → Reply → A → Type 0) (limits : BodyLimits) where
+module _ {A : Type 0} (steps : A → Request → ℕ → Reply → A → Type 0) (limits : RequestLimits) where
   -- a reply after which the connection stays open
   Goes-stays : (close : Bool) (next : Course A) (x : Exchange A) (e : Ended) → close ≡ false → next x e → Goes close next x e
   Goes-stays true next x e is h = absurd (true≢false is)

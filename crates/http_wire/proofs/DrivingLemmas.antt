@@ -22,7 +22,7 @@ use Rattle.http_wire.specs.inside.Sending.{OnOutbox, empty_write_buffer}
 use Rattle.http_wire.proofs.NextMessageLemmas.{IsNextMessage-waits}
 use Rattle.http_wire.proofs.PhaseLemmas.{reads-waiting}
 use Rattle.http_wire.proofs.PieceLemmas.{IsTaken-waits}
-use Rattle.http_wire.specs.declared.body_limits.BodyLimits.{BodyLimits}
+use Rattle.http_wire.specs.declared.request_limits.RequestLimits.{RequestLimits}
 
 -- it does not look at a message where it wants to read
 pub reads-other : (o : OnOutbox) (p : Phase FramedRequest) → wanted_in o p ≡ wants.Read → is_looking p ≡ false
@@ -57,7 +57,7 @@ owes-some true is = absurd cc
 owes-some false is = absurd cc
 
 -- nothing stands over the bytes of a conversation that is over
-stands-unended : (limits : BodyLimits) (bytes said : List ℕ) (a : Ahead) (o : OnOutbox) (p : Phase FramedRequest) → StandsIn limits bytes said a p → wanted_in o p ≡ wants.Nothing → ⊥
+stands-unended : (limits : RequestLimits) (bytes said : List ℕ) (a : Ahead) (o : OnOutbox) (p : Phase FramedRequest) → StandsIn limits bytes said a p → wanted_in o p ≡ wants.Nothing → ⊥
 stands-unended limits bytes said a o (Looking s) h is = absurd cc
 stands-unended limits bytes said a o (Waiting s) h is = reads o.pending is
   where
@@ -123,7 +123,7 @@ CameIn-wanted bytes said broke o c w empty same is (inl answers) none put tells 
     CameIn-owing bytes said broke c owing.0 owing.1 (settled o c bytes said empty same other put) tells (alive ∙ sym unbroken)
 
 -- after a read that failed, what is owed an answer is what that cut
-pub CameIn-broken : (limits : BodyLimits) (bytes said : List ℕ) (broke : Bool) (c : OnConnection) (x : Option Ended) → BreaksTo limits bytes said c.read_buffer c.phase → limits ≡ c.limits → ended_in c.phase ≡ Ok x → body_in c.phase ≡ None
+pub CameIn-broken : (limits : RequestLimits) (bytes said : List ℕ) (broke : Bool) (c : OnConnection) (x : Option Ended) → BreaksTo limits bytes said c.read_buffer c.phase → limits ≡ c.limits → ended_in c.phase ≡ Ok x → body_in c.phase ≡ None
     → IfSome (owed_in c.phase) (λ i. TellsEnd c.read_buffer.ended (Ok i)) → broke ≡ true → CameIn bytes said broke c
 CameIn-broken limits bytes said broke c x breaks size ok gathered tells broken = go c.phase refl gathered breaks ok
   where
@@ -137,7 +137,7 @@ CameIn-broken limits bytes said broke c x breaks size ok gathered tells broken =
     go (Stopped r) is none h ok = absurd h
 
 -- and where nothing is, it breaks the reading off
-pub Breaks-over : (limits : BodyLimits) (bytes said : List ℕ) (a : Ahead) (p : Phase FramedRequest) (f : WireFault) → BreaksTo limits bytes said a p → Err f ≡ ended_in p
+pub Breaks-over : (limits : RequestLimits) (bytes said : List ℕ) (a : Ahead) (p : Phase FramedRequest) (f : WireFault) → BreaksTo limits bytes said a p → Err f ≡ ended_in p
     → BreaksMessage limits (record { input = bytes; text = said }) f × (f ≡ fault.Read)
 Breaks-over limits bytes said a (Looking s) f h is = absurd h
 Breaks-over limits bytes said a (Waiting s) f h is = absurd h
@@ -160,7 +160,7 @@ told-in-part : (said put : List ℕ) (n : ℕ) (w : Bool) → w ≡ true → sai
 told-in-part said put n w waits whole = (length said + n, sym (take-append-add said put n) ∙ ap (take (length said + n)) (whole ∙ ap continue_text waits))
 
 -- `100 Continue` was put, and its write failed after a prefix of it
-pub Breaks-continue : (limits : BodyLimits) (bytes said put : List ℕ) (n : ℕ) (a : Ahead) (p : Phase FramedRequest) → StandsIn limits bytes (said ++ put) a p → is_looking p ≡ true → put ≢ []
+pub Breaks-continue : (limits : RequestLimits) (bytes said put : List ℕ) (n : ℕ) (a : Ahead) (p : Phase FramedRequest) → StandsIn limits bytes (said ++ put) a p → is_looking p ≡ true → put ≢ []
     → BreaksMessage limits (record { input = bytes; text = said ++ take n put }) fault.Write
 Breaks-continue limits bytes said put n a (Looking (Head s)) h looks some = absurd (some (nil-right said put h.0))
   where

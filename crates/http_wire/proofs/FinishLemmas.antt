@@ -31,7 +31,7 @@ use Rattle.http_wire.specs.declared.incoming.Cut.TheVariants as cut
 use Rattle.http_wire.specs.declared.refusal.WireRefusal.{WireRefusal}
 use Rattle.http_wire.proofs.AheadLemmas.{OnOk-always}
 use Rattle.http_wire.proofs.TurnLemmas.{MessageTurn-stays, MessageTurn-closed, MessageTurn-refused, MessageTurn-cut_patch, MessageTurn-cut_other, MessageTurn-end, LastTurn-alone, BreaksAnswer-reply, BreaksAnswer-refusal}
-use Rattle.http_wire.specs.declared.body_limits.BodyLimits.{BodyLimits}
+use Rattle.http_wire.specs.declared.request_limits.RequestLimits.{RequestLimits}
 
 -- what holds of a value under a premise that does not name it
 pub IfOk-when : {T E P : Type 0} (Q : T → Type 0) (r : Result T E) → (P → IfOk r Q) → IfOk r (λ x. P → Q x)
@@ -56,7 +56,7 @@ ended-after (Err fault) = refl
 
 module _ {A : Type 0} (steps : A → Request → ℕ → Reply → A → Type 0) where
   -- nothing is written after what was written while the message came in
-  quiet : (limits : BodyLimits) (now : ℕ) (x : Exchange A) (e : Ended) → LastTurn steps limits now x e → LastTurn steps limits now (record x { text = x.text ++ [] }) e
+  quiet : (limits : RequestLimits) (now : ℕ) (x : Exchange A) (e : Ended) → LastTurn steps limits now x e → LastTurn steps limits now (record x { text = x.text ++ [] }) e
   quiet limits now x e h =
       subst (λ (t : List ℕ). LastTurn steps limits now (record x { text = t }) e) (sym (append-nil x.text)) h
 
@@ -208,7 +208,7 @@ module _ {A : Type 0} (steps : A → Request → ℕ → Reply → A → Type 0)
       (subst (λ l. Writes {T = T} w0 w1 failed l (Err given)) put w) (subst (λ l. l ≢ []) put some)
 
   -- where a turn was finished by a fault, its message had come, and its moment was told before that
-  pub Finishes-asked : {C : Type 0} (tells : C → ℕ → C → Type 0) (before after : C) (limits : BodyLimits) (now : ℕ) (a : Ahead) (incoming : Incoming FramedRequest) (input said : List ℕ) (w0 w1 : Option (List ℕ)) (failed : Bool) (first last : A)
+  pub Finishes-asked : {C : Type 0} (tells : C → ℕ → C → Type 0) (before after : C) (limits : RequestLimits) (now : ℕ) (a : Ahead) (incoming : Incoming FramedRequest) (input said : List ℕ) (w0 w1 : Option (List ℕ)) (failed : Bool) (first last : A)
       (r : Result (Option Ended) WireFault) → tells before now after → ComesIn limits (record { input = input; text = said }) a.held incoming → FinishesTurn steps now a incoming w0 w1 failed first last r
       → IfErr r (λ f. (text : List ℕ) × Appends w0 w1 text × BreaksAsked steps tells limits before after (record { input = input; text = said ++ text; before = first; after = last }) f)
   Finishes-asked tells before after limits now a incoming input said w0 w1 failed first last (Ok e) told f h = tt

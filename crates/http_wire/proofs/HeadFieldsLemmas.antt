@@ -208,6 +208,8 @@ module _ (head : List ℕ) where
         length = at (codes "content-length");
         coding = at (codes "transfer-encoding");
         instead = at (codes "x-http-method-override");
+        range = at (codes "range");
+        condition = at (codes "if-range");
         close = ap closes (map-spans_named head (codes "connection") spans fields e);
         tus = rw (at (codes "content-type"), at (codes "tus-resumable"), at (codes "upload-offset"), at (codes "upload-length"), at (codes "upload-concat"), at (codes "upload-metadata"), at (codes "upload-checksum"), at (codes "upload-defer-length")) refl;
       }
@@ -233,6 +235,8 @@ AreInside-found n head spans h =
       length = at (codes "content-length");
       coding = at (codes "transfer-encoding");
       instead = at (codes "x-http-method-override");
+      range = at (codes "range");
+      condition = at (codes "if-range");
       tus = record {
         media = at (codes "content-type");
         version = at (codes "tus-resumable");

@@ -6,12 +6,12 @@ use Rattle.http_wire.specs.NextMessage.{Parses, refused, judged, judged_message}
 use Rattle.http_wire.specs.inside.HeadLayout.{JudgesHead, ReadsLayout}
 use Rattle.http_wire.specs.declared.read.head.RefusedHead.{RefusedHead}
 use Rattle.http_wire.specs.declared.read.layout.Layout.{Layout}
-use Rattle.http_wire.specs.declared.body_limits.BodyLimits.{BodyLimits}
+use Rattle.http_wire.specs.declared.request_limits.RequestLimits.{RequestLimits}
 
 -- a head text gives what its head is judged to be
-pub ReadsLayout-judged : (limits : BodyLimits) (text : List ℕ) (h : RequestHead) (r : Result Layout RefusedHead) → has_many_lines text ≡ false → Parses text (Some h)
+pub ReadsLayout-judged : (limits : RequestLimits) (text : List ℕ) (h : RequestHead) (r : Result Layout RefusedHead) → has_many_lines text ≡ false → Parses text (Some h)
     → JudgesHead limits text h r → ReadsLayout limits text r
 ReadsLayout-judged limits text h (Ok p) few parses s = (few, (h, parses, s))
 ReadsLayout-judged limits text h (Err e) few parses s = λ rest.
-    let same : refused e.refusal e.framing ≡ judged_message h (judged limits h) rest = rw s.0 (ap (refused e.refusal) s.1) in
+    let same : refused e.refusal e.framing ≡ judged_message limits h (judged limits h) rest = rw s.0 (ap (refused e.refusal) s.1) in
     rw few (Some h, parses, inl same)

@@ -29,7 +29,7 @@ use Rattle.http_wire.proofs.FindLemmas.{Searching-start}
 use Rattle.http_wire.proofs.PieceLemmas.{IsTaken-kept, IsTaken-more, IsTaken-same, none-given}
 use Rattle.http_wire.proofs.StageLemmas.{Standing-kept, Standing-more}
 use Rattle.http_wire.proofs.TurnLemmas.{BreaksTurn-next_message, TakesTurn-finished}
-use Rattle.http_wire.specs.declared.body_limits.BodyLimits.{BodyLimits}
+use Rattle.http_wire.specs.declared.request_limits.RequestLimits.{RequestLimits}
 
 -- what stood is its history, while the conversation is not over and no body is taken in pieces
 pub Stood-history : (p : History) (c : OnConnection) → body_in c.phase ≡ None → Stood p c → HasHistory p c
@@ -94,7 +94,7 @@ pieces-history p c b is h = go c.phase is h
     go (Stopped r) is h = absurd cc
 
 -- what stands of it, where a phase has a body that is taken in pieces
-taken-in : (limits : BodyLimits) (bytes said : List ℕ) (a : Ahead) (q : Phase FramedRequest) (b : PiecedBody) → body_in q ≡ Some b → StandsIn limits bytes said a q → (gone : List ℕ) × IsTaken limits bytes said gone b (here_in a q)
+taken-in : (limits : RequestLimits) (bytes said : List ℕ) (a : Ahead) (q : Phase FramedRequest) (b : PiecedBody) → body_in q ≡ Some b → StandsIn limits bytes said a q → (gone : List ℕ) × IsTaken limits bytes said gone b (here_in a q)
 taken-in limits bytes said a q b is stands = go q is stands
   where
     at_stage : (s : Stage) → pieced s ≡ Some b → Standing limits bytes said a s → (gone : List ℕ) × IsTaken limits bytes said gone b a.held

@@ -13,7 +13,7 @@ use Rattle.http_wire.specs.inside.Ahead.{Ahead}
 use Rattle.http_wire.specs.inside.HeadLayout.{BeginsHead}
 use Rattle.http_wire.specs.NextMessage.{IsNextMessage, message}
 use Rattle.http_wire.proofs.NextMessageLemmas.{IsNextMessage-message}
-use Rattle.http_wire.specs.declared.body_limits.BodyLimits.{BodyLimits}
+use Rattle.http_wire.specs.declared.request_limits.RequestLimits.{RequestLimits}
 
 -- the whole of a request under a head, from a place of its body on
 abbrev from_place : Request → ℕ → List ℕ → Request
@@ -125,7 +125,7 @@ request-whole p head body long none no_more =
 
 -- Some bytes are a message whose body came in pieces, all of which were taken but the last; that is answered. Then its request
 -- is answered in pieces.
-pub whole-step : (m : ℕ) (limits : BodyLimits) (bytes : List ℕ) (p : Layout) (head gone last left : List ℕ) (before answered : List Answering) (now : ℕ) (reply : Reply)
+pub whole-step : (m : ℕ) (limits : RequestLimits) (bytes : List ℕ) (p : Layout) (head gone last left : List ℕ) (before answered : List Answering) (now : ℕ) (reply : Reply)
     → BeginsHead limits bytes p (head ++ ((gone ++ last) ++ left)) → length head ≡ p.head_len → length gone + length last ≡ p.body_len → AreGiven (request_at p head) p.body_len 0 answered gone → AreLong m answered
     → IsNotedBy m last before (request_at p (head ++ (gone ++ last))) now (reply_to_all (request_at p head) (behind_pieces (request_at p head) answered) reply)
     ((before ++ answered) ++ answering (piece_of (behind_pieces (request_at p head) answered) p.body_len (length gone) last) now reply ∷ [])
@@ -134,7 +134,7 @@ whole-step m limits bytes p head gone last left before answered now reply begins
     (sym (request-whole p head (gone ++ last) long begins.shows.given begins.shows.more)) (answered-in_pieces m (request_at p head) p.body_len now before answered gone last reply given all sized)
 
 -- and it is what the bytes begin with, whatever follows them
-pub whole-message : (limits : BodyLimits) (bytes : List ℕ) (p : Layout) (head gone last left : List ℕ) → BeginsHead limits bytes p (head ++ ((gone ++ last) ++ left)) → length head ≡ p.head_len → length gone + length last ≡ p.body_len
+pub whole-message : (limits : RequestLimits) (bytes : List ℕ) (p : Layout) (head gone last left : List ℕ) → BeginsHead limits bytes p (head ++ ((gone ++ last) ++ left)) → length head ≡ p.head_len → length gone + length last ≡ p.body_len
     → (rest : List ℕ) → IsNextMessage limits (bytes ++ rest) (message (request_at p (head ++ (gone ++ last))) p.framing p.is_waiting (left ++ rest))
 whole-message limits bytes p head gone last left begins long all =
     IsNextMessage-message limits bytes p held begins ahead inside (sym (take_at lent left (p.head_len + p.body_len) count) ∙ ap (take (p.head_len + p.body_len)) joined)

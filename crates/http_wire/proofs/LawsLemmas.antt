@@ -6,7 +6,7 @@ use Rattle.httparse.proofs.GrammarLemmas.{request_unique}
 use Rattle.tus_steps.specs.Request.{Request}
 use Rattle.tus_steps.specs.declared.reply.Reply.{Reply}
 use Rattle.http_wire.specs.Asking.{asked, unasked}
-use Rattle.http_wire.specs.BodyLimits.{AreWithin}
+use Rattle.http_wire.specs.RequestLimits.{AreWithin}
 use Rattle.http_wire.specs.Conversation.{Conversation}
 use Rattle.http_wire.specs.Exchange.{followed}
 use Rattle.http_wire.specs.NextMessage.{NextMessage, message, refused, cut_patch, cut_other, clean_end, Begins, BeginsWhole, LacksMemory, Parses, closing, framing_of, unknown_framing, judged, judged_message, parsed_message, with_body}
@@ -19,7 +19,7 @@ use Rattle.http_wire.specs.declared.refusal.WireRefusal.TheVariants.{Head, HeadS
 use Rattle.http_wire.proofs.FindLemmas.{whole_short}
 use Rattle.http_wire.proofs.NextMessageLemmas.{is_message, judged-bound, lacks_none, no_message}
 use Rattle.http_wire.proofs.ConversationLemmas.{Turns-Conversation, Turns-followed, Turns-join}
-use Rattle.http_wire.specs.declared.body_limits.BodyLimits.{BodyLimits}
+use Rattle.http_wire.specs.declared.request_limits.RequestLimits.{RequestLimits}
 
 module _ {A : Type 0} (steps : A → Request → ℕ → Reply → A → Type 0) where
   pub inputs_join : InputsJoin steps
@@ -40,11 +40,11 @@ Parses-unique text (Some h) None p q = absurd (q h p.0 p.1)
 Parses-unique text (Some h) (Some k) p q = ap (λ x. Some x) (request_unique text h k [] [] p.0 q.0).0
 
 -- what lacks memory is refused for it
-lacks_memory : (limits : BodyLimits) (text : List ℕ) (h : Option RequestHead) (f : NextMessage) → LacksMemory limits text h f → RefusesForMemory f
+lacks_memory : (limits : RequestLimits) (text : List ℕ) (h : Option RequestHead) (f : NextMessage) → LacksMemory limits text h f → RefusesForMemory f
 lacks_memory limits text None f l = absurd l
 lacks_memory limits text (Some h) f l = (closing (framing_of h), l.1)
 
-Begins-unique : (limits : BodyLimits) (t : HeadText) (f g : NextMessage) → Begins limits t f → Begins limits t g → (f ≡ g) ⊎ (RefusesForMemory f ⊎ RefusesForMemory g)
+Begins-unique : (limits : RequestLimits) (t : HeadText) (f g : NextMessage) → Begins limits t f → Begins limits t g → (f ≡ g) ⊎ (RefusesForMemory f ⊎ RefusesForMemory g)
 Begins-unique limits (whole text rest) f g b d =
     elim (cases_Bool (has_many_lines text)) [
       | inl many ↦ inl (rw many at b ∙ sym (rw many at d))
@@ -90,8 +90,8 @@ rest_of (cut_other waiting) = []
 rest_of clean_end = []
 
 -- the body of a message, and what follows it
-with_body-short : (most : ℕ) (h : RequestHead) (n : ℕ) (rest : List ℕ) (f : NextMessage) → n ≤ most → is_message f ≡ true → f ≡ with_body h n rest → length rest ≤ most + length (rest_of f)
-with_body-short most h n rest f bound is same =
+with_body-short : (limits : RequestLimits) (most : ℕ) (h : RequestHead) (n : ℕ) (rest : List ℕ) (f : NextMessage) → n ≤ most → is_message f ≡ true → f ≡ with_body limits h n rest → length rest ≤ most + length (rest_of f)
+with_body-short limits most h n rest f bound is same =
     elim (cases_lt (length rest) n) [
       | inl short ↦ omega (arith, short, bound)
       | inr fits ↦
@@ -99,17 +99,17 @@ with_body-short most h n rest f bound is same =
           omega (arith, ap length left, length-drop n rest, bound)
     ]
 
-judged-short : (limits : BodyLimits) (most : ℕ) (h : RequestHead) (r : Result ℕ WireRefusal) (rest : List ℕ) (f : NextMessage) → AreWithin limits most → judged limits h ≡ r → is_message f ≡ true → f ≡ judged_message h r rest
+judged-short : (limits : RequestLimits) (most : ℕ) (h : RequestHead) (r : Result ℕ WireRefusal) (rest : List ℕ) (f : NextMessage) → AreWithin limits most → judged limits h ≡ r → is_message f ≡ true → f ≡ judged_message limits h r rest
     → length rest ≤ most + length (rest_of f)
 judged-short limits most h (Err why) rest f within is is_one same = absurd (no_message f (refused why (closing (framing_of h))) is_one same refl)
 judged-short limits most h (Ok n) rest f within is is_one same =
-    with_body-short most h n rest f (judged-bound limits most h n within is) is_one same
+    with_body-short limits most h n rest f (judged-bound limits most h n within is) is_one same
 
-parsed-short : (limits : BodyLimits) (most : ℕ) (h : Option RequestHead) (rest : List ℕ) (f : NextMessage) → AreWithin limits most → is_message f ≡ true → f ≡ parsed_message limits h rest → length rest ≤ most + length (rest_of f)
+parsed-short : (limits : RequestLimits) (most : ℕ) (h : Option RequestHead) (rest : List ℕ) (f : NextMessage) → AreWithin limits most → is_message f ≡ true → f ≡ parsed_message limits h rest → length rest ≤ most + length (rest_of f)
 parsed-short limits most None rest f within is_one same = absurd (no_message f (refused Head unknown_framing) is_one same refl)
 parsed-short limits most (Some h) rest f within is_one same = judged-short limits most h (judged limits h) rest f within refl is_one same
 
-Begins-short : (limits : BodyLimits) (most : ℕ) (t : HeadText) (f : NextMessage) → AreWithin limits most → is_message f ≡ true → Begins limits t f → (text rest : List ℕ) × (t ≡ whole text rest) × (length rest ≤ most + length (rest_of f))
+Begins-short : (limits : RequestLimits) (most : ℕ) (t : HeadText) (f : NextMessage) → AreWithin limits most → is_message f ≡ true → Begins limits t f → (text rest : List ℕ) × (t ≡ whole text rest) × (length rest ≤ most + length (rest_of f))
 Begins-short limits most (whole text rest) f within is_one b = (
   text,
   rest,

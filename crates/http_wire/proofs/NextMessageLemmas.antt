@@ -9,7 +9,7 @@ use Rattle.tus_steps.specs.Field.{FieldText, is_absent}
 use Rattle.tus_steps.specs.Method.{is_applied_when_cut, is_taken_in_pieces}
 use Rattle.tus_steps.specs.Request.{Request}
 use Rattle.tus_steps.specs.declared.method.Method.{Method}
-use Rattle.http_wire.specs.BodyLimits.{AreWithin, limit_by}
+use Rattle.http_wire.specs.RequestLimits.{AreWithin, limit_by}
 use Rattle.http_wire.specs.inside.Ahead.{Ahead}
 use Rattle.http_wire.specs.NextMessage.{NextMessage, Begins, BeginsWhole, IsNextMessage, LacksMemory, message, refused, cut_patch, cut_other, clean_end, closing, framing_of, unknown_framing, sure_room, method_in, is_waiting, request_of, tus_fields, with_body, judged, judged_message, limit_of, parsed_message}
 use Rattle.http_wire.specs.Fields.{field_text}
@@ -25,7 +25,7 @@ use Rattle.http_wire.specs.declared.refusal.WireRefusal.TheVariants.{BodySize, C
 use Rattle.http_wire.specs.declared.framing.Framing.{Framing}
 use Rattle.http_wire.specs.declared.fault.WireFault.TheVariants.{Read}
 use Rattle.http_wire.proofs.FindLemmas.{head_text-append, whole_short}
-use Rattle.http_wire.specs.declared.body_limits.BodyLimits.{BodyLimits}
+use Rattle.http_wire.specs.declared.request_limits.RequestLimits.{RequestLimits}
 
 -- a body that is accepted is no longer than the greatest
 sized-bound : (max : ℕ) (len : Option ℕ) (n : ℕ) → sized max len ≡ Ok n → n ≤ max
@@ -56,14 +56,14 @@ judge-bound max minor host coding len n is =
     no_length why e = absurd cc
 
 -- the limit of a request is no greater than both
-pub limit_by-within : (limits : BodyLimits) (most : ℕ) (method : Method) (checksum : FieldText) → AreWithin limits most → limit_by limits method checksum ≤ most
+pub limit_by-within : (limits : RequestLimits) (most : ℕ) (method : Method) (checksum : FieldText) → AreWithin limits most → limit_by limits method checksum ≤ most
 limit_by-within limits most method checksum within = by (is_taken_in_pieces method checksum)
   where
     by : (plain : Bool) → (if plain then limits.plain else limits.other) ≤ most
     by true = within.0
     by false = within.1
 
-pub judged-bound : (limits : BodyLimits) (most : ℕ) (h : RequestHead) (n : ℕ) → AreWithin limits most → judged limits h ≡ Ok n → n ≤ most
+pub judged-bound : (limits : RequestLimits) (most : ℕ) (h : RequestHead) (n : ℕ) → AreWithin limits most → judged limits h ≡ Ok n → n ≤ most
 judged-bound limits most h n within is =
     let field = λ (name : List ℕ). field_text name h.fields in
     omega (
@@ -73,7 +73,7 @@ judged-bound limits most h n within is =
     )
 
 -- more bytes came
-pub BeginsHead-more : (limits : BodyLimits) (bytes : List ℕ) (p : Layout) (held got all : List ℕ) → BeginsHead limits bytes p held → p.head_len ≤ length held → all ≡ held ++ got
+pub BeginsHead-more : (limits : RequestLimits) (bytes : List ℕ) (p : Layout) (held got all : List ℕ) → BeginsHead limits bytes p held → p.head_len ≤ length held → all ≡ held ++ got
     → BeginsHead limits (bytes ++ got) p all
 BeginsHead-more limits bytes p held got all b within e =
     let head : take p.head_len all ≡ take p.head_len held = ap (take p.head_len) e ∙ take-append-le p.head_len held got within in
@@ -88,7 +88,7 @@ BeginsHead-more limits bytes p held got all b within e =
     }
 
 -- what came with a head whose body lacks some bytes, and these, are at most a head and the greatest body
-pub BeginsHead-short : (limits : BodyLimits) (most : ℕ) (bytes : List ℕ) (p : Layout) (held : List ℕ) → AreWithin limits most → BeginsHead limits bytes p held → p.head_len ≤ length held → length held < p.head_len + p.body_len
+pub BeginsHead-short : (limits : RequestLimits) (most : ℕ) (bytes : List ℕ) (p : Layout) (held : List ℕ) → AreWithin limits most → BeginsHead limits bytes p held → p.head_len ≤ length held → length held < p.head_len + p.body_len
     → length bytes + ((p.head_len + p.body_len) - length held) ≤ head_limit + most
 BeginsHead-short limits most bytes p held lie b within short =
     let text = take p.head_len held in
@@ -97,15 +97,15 @@ BeginsHead-short limits most bytes p held lie b within short =
     omega (arith, within, short, whole_short bytes text rest begins, length-drop p.head_len held, judged-bound limits most b.head p.body_len lie b.shows.body_len)
 
 -- the next message, by the length of the body
-pub IsNextMessage-with_body : (limits : BodyLimits) (bytes : List ℕ) (p : Layout) (held : List ℕ) (b : BeginsHead limits bytes p held) (rest : List ℕ)
-    → IsNextMessage limits (bytes ++ rest) (with_body b.head p.body_len (drop p.head_len held ++ rest))
+pub IsNextMessage-with_body : (limits : RequestLimits) (bytes : List ℕ) (p : Layout) (held : List ℕ) (b : BeginsHead limits bytes p held) (rest : List ℕ)
+    → IsNextMessage limits (bytes ++ rest) (with_body limits b.head p.body_len (drop p.head_len held ++ rest))
 IsNextMessage-with_body limits bytes p held b rest =
-    let f = with_body b.head p.body_len (drop p.head_len held ++ rest) in
+    let f = with_body limits b.head p.body_len (drop p.head_len held ++ rest) in
     let same : f ≡ parsed_message limits (Some b.head) (drop p.head_len held ++ rest) = rw b.shows.body_len refl in
     subst (λ t. Begins limits t f) (sym (b.begins rest)) (rw b.few (Some b.head, b.parses, inl same))
 
 -- the body found no memory
-pub IsNextMessage-memory : (limits : BodyLimits) (bytes : List ℕ) (p : Layout) (held : List ℕ) (b : BeginsHead limits bytes p held) (rest : List ℕ) → p.head_len ≤ length held
+pub IsNextMessage-memory : (limits : RequestLimits) (bytes : List ℕ) (p : Layout) (held : List ℕ) (b : BeginsHead limits bytes p held) (rest : List ℕ) → p.head_len ≤ length held
     → 0 < p.body_len → sure_room < p.head_len + p.body_len → IsNextMessage limits (bytes ++ rest) (refused Memory (closing p.framing))
 IsNextMessage-memory limits bytes p held b rest within some large =
     let f = refused Memory (closing p.framing) in
@@ -113,13 +113,13 @@ IsNextMessage-memory limits bytes p held b rest within some large =
     subst (λ t. Begins limits t f) (sym (b.begins rest)) (rw b.few (Some b.head, b.parses, inr ((p.body_len, b.shows.body_len, some, rw (length-take-le p.head_len held within) large), same)))
 
 -- the request of the layout is that of the head
-pub request_at-shows : (limits : BodyLimits) (text head body : List ℕ) (h : RequestHead) (p : Layout) → ShowsHead limits head h p → take p.head_len text ≡ head → drop p.head_len text ≡ body
-    → request_at p text ≡ request_of h body
+pub request_at-shows : (limits : RequestLimits) (text head body : List ℕ) (h : RequestHead) (p : Layout) → ShowsHead limits head h p → take p.head_len text ≡ head → drop p.head_len text ≡ body
+    → request_at p text ≡ request_of limits h body
 request_at-shows limits text head body h p s next_message rest =
-    rw (next_message, rest, s.created, s.method, s.target, s.fields, s.given, s.more) refl
+    rw (next_message, rest, s.created, s.method, s.target, s.fields, s.range, s.given, s.more) refl
 
 -- all of the body is held
-pub IsNextMessage-message : (limits : BodyLimits) (bytes : List ℕ) (p : Layout) (held : List ℕ) (b : BeginsHead limits bytes p held) (a : Ahead) → p.head_len + p.body_len ≤ length held
+pub IsNextMessage-message : (limits : RequestLimits) (bytes : List ℕ) (p : Layout) (held : List ℕ) (b : BeginsHead limits bytes p held) (a : Ahead) → p.head_len + p.body_len ≤ length held
     → a.lent ≡ take (p.head_len + p.body_len) held → a.held ≡ drop (p.head_len + p.body_len) held
     → (rest : List ℕ) → IsNextMessage limits (bytes ++ rest) (message (request_at p a.lent) p.framing p.is_waiting (a.held ++ rest))
 IsNextMessage-message limits bytes p held b a whole_body lent left rest =
@@ -131,7 +131,7 @@ IsNextMessage-message limits bytes p held b a whole_body lent left rest =
     inside : p.head_len + p.body_len ≤ length held → p.body_len ≤ length (drop p.head_len held)
     inside h = omega (arith, length-drop p.head_len held, h)
 
-    same : with_body b.head p.body_len (drop p.head_len held ++ rest) ≡ message (request_at p a.lent) p.framing p.is_waiting (a.held ++ rest)
+    same : with_body limits b.head p.body_len (drop p.head_len held ++ rest) ≡ message (request_at p a.lent) p.framing p.is_waiting (a.held ++ rest)
     same =
         let fits = inside whole_body in
         let long : p.body_len ≤ length (drop p.head_len held ++ rest) = omega (arith, length-append (drop p.head_len held) rest, fits) in
@@ -143,38 +143,38 @@ IsNextMessage-message limits bytes p held b a whole_body lent left rest =
         let request = request_at-shows limits a.lent (take p.head_len held) (take p.body_len (drop p.head_len held)) b.head p b.shows head text in
         rw (le-leb p.body_len (length (drop p.head_len held ++ rest)) long, first, later, request, b.shows.framing, b.shows.is_waiting) refl
 
-alone : (limits : BodyLimits) (bytes : List ℕ) (p : Layout) (held : List ℕ) (b : BeginsHead limits bytes p held) → IsNextMessage limits bytes (with_body b.head p.body_len (drop p.head_len held))
+alone : (limits : RequestLimits) (bytes : List ℕ) (p : Layout) (held : List ℕ) (b : BeginsHead limits bytes p held) → IsNextMessage limits bytes (with_body limits b.head p.body_len (drop p.head_len held))
 alone limits bytes p held b =
-    subst₂ (λ i f. IsNextMessage limits i f) (append-nil bytes) (ap (with_body b.head p.body_len) (append-nil (drop p.head_len held))) (IsNextMessage-with_body limits bytes p held b [])
+    subst₂ (λ i f. IsNextMessage limits i f) (append-nil bytes) (ap (with_body limits b.head p.body_len) (append-nil (drop p.head_len held))) (IsNextMessage-with_body limits bytes p held b [])
 
 -- not all of it is held
-short_body : (h : RequestHead) (n : ℕ) (rest : List ℕ) → length rest < n
-    → with_body h n rest ≡ (if is_applied_when_cut (method_in h) (tus_fields h).checksum then cut_patch (request_of h rest) (framing_of h) (is_waiting h n) else cut_other (is_waiting h n))
-short_body h n rest short = rw (lt-leb n (length rest) short) refl
+short_body : (limits : RequestLimits) (h : RequestHead) (n : ℕ) (rest : List ℕ) → length rest < n
+    → with_body limits h n rest ≡ (if is_applied_when_cut (method_in h) (tus_fields h).checksum then cut_patch (request_of limits h rest) (framing_of h) (is_waiting h n) else cut_other (is_waiting h n))
+short_body limits h n rest short = rw (lt-leb n (length rest) short) refl
 
 -- what a cut body does follows from the layout of the head
-cut-shows : (limits : BodyLimits) (text : List ℕ) (h : RequestHead) (p : Layout) → ShowsHead limits text h p → (applied : Bool) → is_applied_when_cut p.method (field_at text p.fields.checksum) ≡ applied → is_applied_when_cut (method_in h) (tus_fields h).checksum ≡ applied
+cut-shows : (limits : RequestLimits) (text : List ℕ) (h : RequestHead) (p : Layout) → ShowsHead limits text h p → (applied : Bool) → is_applied_when_cut p.method (field_at text p.fields.checksum) ≡ applied → is_applied_when_cut (method_in h) (tus_fields h).checksum ≡ applied
 cut-shows limits text h p shows applied is =
     ap (λ m. is_applied_when_cut m (tus_fields h).checksum) (sym shows.method) ∙ ap (λ (f : TusFields FieldText). is_applied_when_cut p.method f.checksum) (sym shows.fields) ∙ is
 
-pub IsNextMessage-cut_patch : (limits : BodyLimits) (bytes : List ℕ) (p : Layout) (held : List ℕ) (b : BeginsHead limits bytes p held) (a : Ahead) → length held < p.head_len + p.body_len
+pub IsNextMessage-cut_patch : (limits : RequestLimits) (bytes : List ℕ) (p : Layout) (held : List ℕ) (b : BeginsHead limits bytes p held) (a : Ahead) → length held < p.head_len + p.body_len
     → p.head_len ≤ length held → ((head : List ℕ) → is_applied_when_cut p.method (field_at head p.fields.checksum) ≡ true) → a.lent ≡ held → IsNextMessage limits bytes (cut_patch (request_at p a.lent) p.framing p.is_waiting)
 IsNextMessage-cut_patch limits bytes p held b a short within patch lent =
     let few : length (drop p.head_len held) < p.body_len = omega (arith, length-drop p.head_len held) in
     let request = request_at-shows limits a.lent (take p.head_len held) (drop p.head_len held) b.head p b.shows (ap (take p.head_len) lent) (ap (drop p.head_len) lent) in
     let is = cut-shows limits (take p.head_len held) b.head p b.shows _ (patch (take p.head_len held)) in
-    subst (λ f. IsNextMessage limits bytes f) (short_body b.head p.body_len (drop p.head_len held) few ∙ rw (is, request, b.shows.framing, b.shows.is_waiting) refl) (alone limits bytes p held b)
+    subst (λ f. IsNextMessage limits bytes f) (short_body limits b.head p.body_len (drop p.head_len held) few ∙ rw (is, request, b.shows.framing, b.shows.is_waiting) refl) (alone limits bytes p held b)
 
-pub IsNextMessage-cut_other : (limits : BodyLimits) (bytes : List ℕ) (p : Layout) (held : List ℕ) (b : BeginsHead limits bytes p held) → length held < p.head_len + p.body_len
+pub IsNextMessage-cut_other : (limits : RequestLimits) (bytes : List ℕ) (p : Layout) (held : List ℕ) (b : BeginsHead limits bytes p held) → length held < p.head_len + p.body_len
     → p.head_len ≤ length held → ((head : List ℕ) → is_applied_when_cut p.method (field_at head p.fields.checksum) ≡ false) → IsNextMessage limits bytes (cut_other p.is_waiting)
 IsNextMessage-cut_other limits bytes p held b short within patch =
     let few : length (drop p.head_len held) < p.body_len = omega (arith, length-drop p.head_len held) in
     let is = cut-shows limits (take p.head_len held) b.head p b.shows _ (patch (take p.head_len held)) in
-    subst (λ f. IsNextMessage limits bytes f) (short_body b.head p.body_len (drop p.head_len held) few ∙ rw (is, b.shows.is_waiting) refl) (alone limits bytes p held b)
+    subst (λ f. IsNextMessage limits bytes f) (short_body limits b.head p.body_len (drop p.head_len held) few ∙ rw (is, b.shows.is_waiting) refl) (alone limits bytes p held b)
 
 -- the request waits
-pub waits-with_body : (h : RequestHead) (n : ℕ) (rest : List ℕ) → is_waiting h n ≡ true → waits (with_body h n rest) ≡ true
-waits-with_body h n rest w =
+pub waits-with_body : (limits : RequestLimits) (h : RequestHead) (n : ℕ) (rest : List ℕ) → is_waiting h n ≡ true → waits (with_body limits h n rest) ≡ true
+waits-with_body limits h n rest w =
     elim (cases_Bool (nat_le n (length rest))) [
       | inl t ↦ rw t w
       | inr f ↦ rw f (elim (cases_Bool (is_applied_when_cut (method_in h) (tus_fields h).checksum)) [
@@ -183,13 +183,13 @@ waits-with_body h n rest w =
       ])
     ]
 
-pub IsNextMessage-waits : (limits : BodyLimits) (bytes : List ℕ) (p : Layout) (held : List ℕ) (b : BeginsHead limits bytes p held) → p.is_waiting ≡ true
+pub IsNextMessage-waits : (limits : RequestLimits) (bytes : List ℕ) (p : Layout) (held : List ℕ) (b : BeginsHead limits bytes p held) → p.is_waiting ≡ true
     → (f : NextMessage) × IsNextMessage limits bytes f × (waits f ≡ true)
 IsNextMessage-waits limits bytes p held b w =
-    (with_body b.head p.body_len (drop p.head_len held), alone limits bytes p held b, waits-with_body b.head p.body_len (drop p.head_len held) (sym b.shows.is_waiting ∙ w))
+    (with_body limits b.head p.body_len (drop p.head_len held), alone limits bytes p held b, waits-with_body limits b.head p.body_len (drop p.head_len held) (sym b.shows.is_waiting ∙ w))
 
 -- a head that was found and read
-pub BeginsHead-found : (limits : BodyLimits) (bytes held found : List ℕ) (len : ℕ) (p : Layout) → found ≡ held → len ≤ length held → p.head_len ≡ length (take len found)
+pub BeginsHead-found : (limits : RequestLimits) (bytes held found : List ℕ) (len : ℕ) (p : Layout) → found ≡ held → len ≤ length held → p.head_len ≡ length (take len found)
     → ReadsLayout limits (take len found) (Ok p) → ((rest : List ℕ) → head_text (bytes ++ rest) ≡ whole (take len held) (drop len held ++ rest)) → BeginsHead limits bytes p held
 BeginsHead-found limits bytes held found len p e within is gives begins =
     let count : length (take len found) ≡ len = rw e (omega (arith, length-take-le len held within)) in
@@ -204,17 +204,17 @@ BeginsHead-found limits bytes held found len p e within is gives begins =
     }
 
 -- a head that is refused
-pub IsNextMessage-refused : (limits : BodyLimits) (bytes held found : List ℕ) (len : ℕ) (f : NextMessage) → found ≡ held → ((rest : List ℕ) → Begins limits (whole (take len found) rest) f)
+pub IsNextMessage-refused : (limits : RequestLimits) (bytes held found : List ℕ) (len : ℕ) (f : NextMessage) → found ≡ held → ((rest : List ℕ) → Begins limits (whole (take len found) rest) f)
     → ((rest : List ℕ) → head_text (bytes ++ rest) ≡ whole (take len held) (drop len held ++ rest)) → (rest : List ℕ) → IsNextMessage limits (bytes ++ rest) f
 IsNextMessage-refused limits bytes held found len f e gives begins rest =
     subst (λ t. Begins limits t f) (ap (λ l. whole (take len l) (drop len held ++ rest)) e ∙ sym (begins rest)) (gives (drop len held ++ rest))
 
 -- the end inside a head
-pub IsNextMessage-cut : (limits : BodyLimits) (bytes : List ℕ) → head_text bytes ≡ cut → IsNextMessage limits bytes (cut_other false)
+pub IsNextMessage-cut : (limits : RequestLimits) (bytes : List ℕ) → head_text bytes ≡ cut → IsNextMessage limits bytes (cut_other false)
 IsNextMessage-cut limits bytes e = subst (λ t. Begins limits t (cut_other false)) (sym e) refl
 
 -- a read failed before a whole head came
-pub BreaksMessage-unfinished : (limits : BodyLimits) (bytes said : List ℕ) → said ≡ [] → IsUnfinished bytes → BreaksMessage limits (record { input = bytes; text = said }) Read
+pub BreaksMessage-unfinished : (limits : RequestLimits) (bytes said : List ℕ) → said ≡ [] → IsUnfinished bytes → BreaksMessage limits (record { input = bytes; text = said }) Read
 BreaksMessage-unfinished limits bytes said e (inl c) = inl (false, e, IsNextMessage-cut limits bytes c)
 BreaksMessage-unfinished limits bytes said e (inr n) = inr (e, subst (λ t. Begins limits t clean_end) (sym n) refl)
 
@@ -242,9 +242,9 @@ cut_message : (patch : Bool) (request : Request) (framing : Framing) (waiting : 
 cut_message true request framing waiting = refl
 cut_message false request framing waiting = refl
 
-with_body-followed : (h : RequestHead) (n : ℕ) (rest more : List ℕ) → is_message (with_body h n rest) ≡ true
-    → followed more (with_body h n rest) ≡ with_body h n (rest ++ more)
-with_body-followed h n rest more is =
+with_body-followed : (limits : RequestLimits) (h : RequestHead) (n : ℕ) (rest more : List ℕ) → is_message (with_body limits h n rest) ≡ true
+    → followed more (with_body limits h n rest) ≡ with_body limits h n (rest ++ more)
+with_body-followed limits h n rest more is =
     elim (cases_lt (length rest) n) [
       | inl short ↦ absurd (true≢false (sym is ∙ rw (lt-leb n (length rest) short) (cut_message _ _ _ _)))
       | inr fits ↦
@@ -252,22 +252,22 @@ with_body-followed h n rest more is =
           rw (le-leb n (length rest) fits, le-leb n (length (rest ++ more)) long, take-append-le n rest more fits, drop-append-le n rest more fits) refl
     ]
 
-judged_message-followed : (h : RequestHead) (r : Result ℕ WireRefusal) (rest more : List ℕ) → is_message (judged_message h r rest) ≡ true
-    → followed more (judged_message h r rest) ≡ judged_message h r (rest ++ more)
-judged_message-followed h (Err why) rest more is = refl
-judged_message-followed h (Ok n) rest more is = with_body-followed h n rest more is
+judged_message-followed : (limits : RequestLimits) (h : RequestHead) (r : Result ℕ WireRefusal) (rest more : List ℕ) → is_message (judged_message limits h r rest) ≡ true
+    → followed more (judged_message limits h r rest) ≡ judged_message limits h r (rest ++ more)
+judged_message-followed limits h (Err why) rest more is = refl
+judged_message-followed limits h (Ok n) rest more is = with_body-followed limits h n rest more is
 
-parsed_message-followed : (limits : BodyLimits) (h : Option RequestHead) (rest more : List ℕ) → is_message (parsed_message limits h rest) ≡ true
+parsed_message-followed : (limits : RequestLimits) (h : Option RequestHead) (rest more : List ℕ) → is_message (parsed_message limits h rest) ≡ true
     → followed more (parsed_message limits h rest) ≡ parsed_message limits h (rest ++ more)
 parsed_message-followed limits None rest more is = refl
-parsed_message-followed limits (Some h) rest more is = judged_message-followed h (judged limits h) rest more is
+parsed_message-followed limits (Some h) rest more is = judged_message-followed limits h (judged limits h) rest more is
 
 -- no message is refused because there is no memory
-pub lacks_none : (limits : BodyLimits) (text : List ℕ) (h : Option RequestHead) (f : NextMessage) → is_message f ≡ true → LacksMemory limits text h f → ⊥
+pub lacks_none : (limits : RequestLimits) (text : List ℕ) (h : Option RequestHead) (f : NextMessage) → is_message f ≡ true → LacksMemory limits text h f → ⊥
 lacks_none limits text None f is l = l
 lacks_none limits text (Some h) f is l = no_message f (refused Memory (closing (framing_of h))) is l.1 refl
 
-Begins-followed : (limits : BodyLimits) (t : HeadText) (more : List ℕ) (f : NextMessage) → is_message f ≡ true → Begins limits t f
+Begins-followed : (limits : RequestLimits) (t : HeadText) (more : List ℕ) (f : NextMessage) → is_message f ≡ true → Begins limits t f
     → (text rest : List ℕ) × (t ≡ whole text rest) × Begins limits (whole text (rest ++ more)) (followed more f)
 Begins-followed limits (whole text rest) more f is b = (
   text,
@@ -290,7 +290,7 @@ Begins-followed limits cut more f is b = absurd (no_message f (cut_other false) 
 Begins-followed limits nothing more f is b = absurd (no_message f clean_end is b refl)
 
 -- a message stays when more bytes follow
-pub IsNextMessage-followed : (limits : BodyLimits) (input more : List ℕ) (f : NextMessage) → is_message f ≡ true → IsNextMessage limits input f → IsNextMessage limits (input ++ more) (followed more f)
+pub IsNextMessage-followed : (limits : RequestLimits) (input more : List ℕ) (f : NextMessage) → is_message f ≡ true → IsNextMessage limits input f → IsNextMessage limits (input ++ more) (followed more f)
 IsNextMessage-followed limits input more f is next_message =
     let b = Begins-followed limits (head_text input) more f is next_message in
     subst (λ t. Begins limits t (followed more f)) (sym (head_text-append input more b.0 b.1 b.2)) b.3

@@ -19,7 +19,7 @@ use Rattle.http_wire.specs.declared.framing.Framing.{Framing}
 use Rattle.http_wire.specs.declared.refusal.WireRefusal.{WireRefusal}
 use Rattle.http_wire.specs.declared.refusal.WireRefusal.TheVariants.{Coding, ContentLength, BodySize, Head, HeadSize, Host, Memory}
 use Rattle.http_wire.proofs.LawsLemmas.{Parses-unique}
-use Rattle.http_wire.specs.declared.body_limits.BodyLimits.{BodyLimits}
+use Rattle.http_wire.specs.declared.request_limits.RequestLimits.{RequestLimits}
 
 -- the reason of tests, or of what is asked after them
 abbrev After : Option WireRefusal → Questions → Option WireRefusal → Type 0
@@ -55,20 +55,20 @@ judge-first max minor host coding len = by (is_host_wrong minor host) (is_absent
     by false false = refl
     by false true = sized-first max (body_len len)
 
-judged_tests : BodyLimits → RequestHead → List (Bool × WireRefusal)
+judged_tests : RequestLimits → RequestHead → List (Bool × WireRefusal)
 judged_tests limits h =
     let field = λ (name : List ℕ). field_text name h.fields in
     judge_tests (limit_of limits h) h.minor (field (codes "host")) (field (codes "transfer-encoding")) (field (codes "content-length"))
 
-judged-first : (limits : BodyLimits) (h : RequestHead) → result_err (judged limits h) ≡ first_that_holds (judged_tests limits h)
+judged-first : (limits : RequestLimits) (h : RequestHead) → result_err (judged limits h) ≡ first_that_holds (judged_tests limits h)
 unfolding judged_tests
 judged-first limits h =
     let field = λ (name : List ℕ). field_text name h.fields in
     judge-first (limit_of limits h) h.minor (field (codes "host")) (field (codes "transfer-encoding")) (field (codes "content-length"))
 
 -- a head with its body is not refused
-unrefused : (h : RequestHead) (n : ℕ) (rest : List ℕ) → refusal_in (with_body h n rest) ≡ None
-unrefused h n rest = by (nat_le n (length rest)) (is_applied_when_cut (method_in h) (tus_fields h).checksum) _ _ _ _
+unrefused : (limits : RequestLimits) (h : RequestHead) (n : ℕ) (rest : List ℕ) → refusal_in (with_body limits h n rest) ≡ None
+unrefused limits h n rest = by (nat_le n (length rest)) (is_applied_when_cut (method_in h) (tus_fields h).checksum) _ _ _ _
   where
     by : (all patch : Bool) (more : List ℕ) (request cut_request : Request) (framing : Framing)
         → refusal_in (if all then message request framing (is_waiting h n) more else (if patch then cut_patch cut_request framing (is_waiting h n) else cut_other (is_waiting h n))) ≡ None
@@ -77,18 +77,18 @@ unrefused h n rest = by (nat_le n (length rest)) (is_applied_when_cut (method_in
     by false false more request cut_request framing = refl
 
 -- an input with this text begins so, and is refused for this reason
-abbrev BeginsFor : BodyLimits → HeadText → Option WireRefusal → Type 0
+abbrev BeginsFor : RequestLimits → HeadText → Option WireRefusal → Type 0
 BeginsFor limits t why = (f : NextMessage) × Begins limits t f × (refusal_in f ≡ why)
 
-abbrev BeginsWholeFor : BodyLimits → List ℕ → List ℕ → Option WireRefusal → Type 0
+abbrev BeginsWholeFor : RequestLimits → List ℕ → List ℕ → Option WireRefusal → Type 0
 BeginsWholeFor limits text rest why = (f : NextMessage) × BeginsWhole limits text rest f × (refusal_in f ≡ why)
 
-module _ (limits : BodyLimits) (text rest : List ℕ) (why : Option WireRefusal) where
+module _ (limits : RequestLimits) (text rest : List ℕ) (why : Option WireRefusal) where
   -- a head whose fields are tested
   judged-begins : (h : RequestHead) (r : Result ℕ WireRefusal) → judged limits h ≡ r → Parses text (Some h) → After (result_err r) (memory (OutgrowsRoom limits text h) done) why → BeginsWholeFor limits text rest why
-  judged-begins h (Err refusal) is parses q = (judged_message h (Err refusal) rest, (Some h, parses, inl (ap (λ r. judged_message h r rest) (sym is))), sym q)
+  judged-begins h (Err refusal) is parses q = (judged_message limits h (Err refusal) rest, (Some h, parses, inl (ap (λ r. judged_message limits h r rest) (sym is))), sym q)
   judged-begins h (Ok n) is parses (inl lacks) = (refused Memory (closing (framing_of h)), (Some h, parses, inr (lacks.0, refl)), sym lacks.1)
-  judged-begins h (Ok n) is parses (inr none) = (with_body h n rest, (Some h, parses, inl (ap (λ r. judged_message h r rest) (sym is))), unrefused h n rest ∙ sym none)
+  judged-begins h (Ok n) is parses (inr none) = (with_body limits h n rest, (Some h, parses, inl (ap (λ r. judged_message limits h r rest) (sym is))), unrefused limits h n rest ∙ sym none)
 
   head-begins : (parsed : Option RequestHead) → Parses text parsed → MatchBool (is_none parsed) (why ≡ Some Head) (IsReason (head_questions limits text parsed) why) → BeginsWholeFor limits text rest why
   unfolding judged_tests
@@ -103,17 +103,17 @@ module _ (limits : BodyLimits) (text rest : List ℕ) (why : Option WireRefusal)
   whole-begins true parsed parses q = (refused HeadSize unknown_framing, refl, sym q)
   whole-begins false parsed parses q = head-begins parsed parses q
 
-begins : (limits : BodyLimits) (t : HeadText) (parsed : Option RequestHead) (why : Option WireRefusal) → IsParsed t parsed → IsReason (questions limits t parsed) why → BeginsFor limits t why
+begins : (limits : RequestLimits) (t : HeadText) (parsed : Option RequestHead) (why : Option WireRefusal) → IsParsed t parsed → IsReason (questions limits t parsed) why → BeginsFor limits t why
 begins limits (whole text rest) parsed why parses q = whole-begins limits text rest why (has_many_lines text) parsed parses q
 begins limits too_long parsed why parses q = (refused HeadSize unknown_framing, refl, sym q)
 begins limits cut parsed why parses q = (cut_other false, refl, sym q)
 begins limits nothing parsed why parses q = (clean_end, refl, sym q)
 
-module _ (limits : BodyLimits) (text rest : List ℕ) (f : NextMessage) where
+module _ (limits : RequestLimits) (text rest : List ℕ) (f : NextMessage) where
   -- a head whose fields were judged
-  judged-reason : (h : RequestHead) (r : Result ℕ WireRefusal) → f ≡ judged_message h r rest → After (result_err r) (memory (OutgrowsRoom limits text h) done) (refusal_in f)
+  judged-reason : (h : RequestHead) (r : Result ℕ WireRefusal) → f ≡ judged_message limits h r rest → After (result_err r) (memory (OutgrowsRoom limits text h) done) (refusal_in f)
   judged-reason h (Err refusal) same = ap refusal_in same
-  judged-reason h (Ok n) same = inr (ap refusal_in same ∙ unrefused h n rest)
+  judged-reason h (Ok n) same = inr (ap refusal_in same ∙ unrefused limits h n rest)
 
   later-reason : (h : RequestHead) → After (result_err (judged limits h)) (memory (OutgrowsRoom limits text h) done) (refusal_in f) → IsReason (head_questions limits text (Some h)) (refusal_in f)
   unfolding judged_tests
@@ -136,14 +136,14 @@ module _ (limits : BodyLimits) (text rest : List ℕ) (f : NextMessage) where
   whole-reason false parsed parses w =
       subst (λ (p : Option RequestHead). MatchBool (is_none p) (refusal_in f ≡ Some Head) (IsReason (head_questions limits text p) (refusal_in f))) (Parses-unique text w.0 parsed w.1 parses) (head-reason w.0 w.2)
 
-reason : (limits : BodyLimits) (t : HeadText) (parsed : Option RequestHead) (f : NextMessage) → IsParsed t parsed → Begins limits t f → IsReason (questions limits t parsed) (refusal_in f)
+reason : (limits : RequestLimits) (t : HeadText) (parsed : Option RequestHead) (f : NextMessage) → IsParsed t parsed → Begins limits t f → IsReason (questions limits t parsed) (refusal_in f)
 reason limits (whole text rest) parsed f parses b = whole-reason limits text rest f (has_many_lines text) parsed parses b
 reason limits too_long parsed f parses b = ap refusal_in b
 reason limits cut parsed f parses b = ap refusal_in b
 reason limits nothing parsed f parses b = ap refusal_in b
 
 -- the words of all questions stand in the order
-order_stands : (limits : BodyLimits) (t : HeadText) (parsed : Option RequestHead) → stand_in (words_of (questions limits t parsed)) order ≡ true
+order_stands : (limits : RequestLimits) (t : HeadText) (parsed : Option RequestHead) → stand_in (words_of (questions limits t parsed)) order ≡ true
 order_stands limits (whole text rest) None = refl
 order_stands limits (whole text rest) (Some h) = refl
 order_stands limits too_long parsed = refl

@@ -9,3 +9,11 @@ joined page front piece before after h k = k ∙ ap (λ l. l ++ piece) h ∙ app
 pub path_joined : (page name files tenant slash id end : List ℕ)
     → ((((page ++ (name ++ files)) ++ tenant) ++ slash) ++ id) ++ end ≡ page ++ ((name ++ (((files ++ tenant) ++ slash) ++ id)) ++ end)
 path_joined page name files tenant slash id end = simp append_assoc
+
+-- the pieces of the line of a range, and of one that has no bytes
+pub range_joined : (page name unit first hyphen last slash len end : List ℕ)
+    → ((((((page ++ (name ++ unit)) ++ first) ++ hyphen) ++ last) ++ slash) ++ len) ++ end ≡ page ++ ((name ++ (((((unit ++ first) ++ hyphen) ++ last) ++ slash) ++ len)) ++ end)
+range_joined page name unit first hyphen last slash len end = simp append_assoc
+
+pub none_joined : (page name unit len end : List ℕ) → ((page ++ (name ++ unit)) ++ len) ++ end ≡ page ++ ((name ++ (unit ++ len)) ++ end)
+none_joined page name unit len end = simp append_assoc

@@ -2,7 +2,7 @@
 use Rattle.std.proofs.Common.{◌≡◌, ◌≢◌, ◌≤◌, ◌↔◌, false, IfSome, ◌+◌, ◌∷◌, ◌++◌, ℕ, Bool, true, List, [], length, Option, Some, None, Result, Ok, Err, refl, ap, ◌∙◌, ◌<◌, sym, subst, arith, length-append}
 use Rattle.http_wire.specs.Incoming.{FramedRequest}
 use Rattle.std.specs.Prelude.{if◌then◌else◌}
-use Rattle.http_wire.specs.BodyLimits.{AreSmall, AreWithin}
+use Rattle.http_wire.specs.RequestLimits.{AreSmall, AreWithin}
 use Rattle.http_wire.specs.ConnectionCalls.{Takes}
 use Rattle.http_wire.specs.Layout.{framed_at}
 use Rattle.http_wire.specs.OnConnection.{HasNoMessage, StandsIn, at_start, body_in, is_looking, owed_in, phase_after, unless_pending, wanted_in}
@@ -21,10 +21,10 @@ use Rattle.http_wire.specs.inside.Phases.{Gathers, map_phase, lacking, IsConnect
 use Rattle.http_wire.specs.inside.Sending.{OnOutbox}
 use Rattle.http_wire.proofs.HistoryLemmas.{History-kept, History-took}
 use Rattle.http_wire.proofs.StageLemmas.{Standing-few, Standing-kept, Standing-more, Standing-unfinished, Wants-unended}
-use Rattle.http_wire.specs.declared.body_limits.BodyLimits.{BodyLimits}
+use Rattle.http_wire.specs.declared.request_limits.RequestLimits.{RequestLimits}
 
 -- the start of a message may stand over any read buffer
-pub IsConnection-start : (a : Ahead) (p : Phase Layout) (limits : BodyLimits) (piece : Option ℕ) → AreSmall limits → IfSome piece (λ n. 0 < n) → p ≡ at_start → IsConnection a p limits piece
+pub IsConnection-start : (a : Ahead) (p : Phase Layout) (limits : RequestLimits) (piece : Option ℕ) → AreSmall limits → IfSome piece (λ n. 0 < n) → p ≡ at_start → IsConnection a p limits piece
 IsConnection-start a p limits piece size some is = record {
   size = size;
   some = some;
@@ -34,7 +34,7 @@ IsConnection-start a p limits piece size some is = record {
 }
 
 -- and so may what follows a turn
-pub IsConnection-after : (a : Ahead) (p : Phase Layout) (limits : BodyLimits) (piece : Option ℕ) (turn : Result (Option Ended) WireFault) → AreSmall limits → IfSome piece (λ n. 0 < n) → p ≡ phase_after turn → IsConnection a p limits piece
+pub IsConnection-after : (a : Ahead) (p : Phase Layout) (limits : RequestLimits) (piece : Option ℕ) (turn : Result (Option Ended) WireFault) → AreSmall limits → IfSome piece (λ n. 0 < n) → p ≡ phase_after turn → IsConnection a p limits piece
 IsConnection-after a p limits piece (Ok None) size some is = IsConnection-start a p limits piece size some is
 IsConnection-after a p limits piece (Ok (Some e)) size some is = record {
   size = size;
@@ -92,7 +92,7 @@ none-came old got new n ended is len ends =
     ((λ none. ends.0 (sym same ∙ ap length none)), (λ e. none-of got n same (ends.1 e)))
 
 -- one read at a message for which more is needed
-pub Takes-read : (got : List ℕ) (f : Layout → FramedRequest) (p : Phase Layout) (s : Stage) (old new : Ahead) (o : OnOutbox) (limits : BodyLimits) (piece : Option ℕ) → p ≡ Waiting s → IsPhase old p
+pub Takes-read : (got : List ℕ) (f : Layout → FramedRequest) (p : Phase Layout) (s : Stage) (old new : Ahead) (o : OnOutbox) (limits : RequestLimits) (piece : Option ℕ) → p ≡ Waiting s → IsPhase old p
     → new.held ≡ old.held ++ got → ((got ≡ []) ↔ (new.ended ≡ true))
     → Takes got (record { read_buffer = old; phase = map_phase f p; write_buffer = o; limits = limits; piece = piece }) (record { read_buffer = new; phase = Looking s; write_buffer = o; limits = limits; piece = piece })
 Takes-read got f p s old new o limits piece is at held ended =
@@ -109,7 +109,7 @@ Takes-read got f p s old new o limits piece is at held ended =
     })
 
 -- what one read brings of a message that needs more stays within the limit
-pub Reads-few : (f : Layout → FramedRequest) (p : Phase Layout) (s : Stage) (limits : BodyLimits) (most n : ℕ) (a : Ahead) → AreWithin limits most → p ≡ Waiting s → IsPhase a p → n ≤ ahead_limit + lacking a p
+pub Reads-few : (f : Layout → FramedRequest) (p : Phase Layout) (s : Stage) (limits : RequestLimits) (most n : ℕ) (a : Ahead) → AreWithin limits most → p ≡ Waiting s → IsPhase a p → n ≤ ahead_limit + lacking a p
     → (bytes said : List ℕ) → StandsIn limits bytes said a (map_phase f p) → length bytes + n ≤ read_limit most
 Reads-few f (Looking t) s limits most n a within is at few bytes said h = absurd cc
 Reads-few f (Waiting t) s limits most n a within is at few bytes said h = omega (arith, few, Standing-few limits most bytes said a t within h at.0 at.1)
@@ -175,7 +175,7 @@ reads-unended f a p o at reads =
     Wants-unended a waits.0 (subst (IsPhase a) (waits-anyway f p waits.0 waits.1) at).1
 
 -- and only where no whole message is held
-pub reads-unfinished : (f : Layout → FramedRequest) (a : Ahead) (p : Phase Layout) (o : OnOutbox) (limits : BodyLimits) (bytes said : List ℕ) → IsPhase a p → wanted_in o (map_phase f p) ≡ wants.Read
+pub reads-unfinished : (f : Layout → FramedRequest) (a : Ahead) (p : Phase Layout) (o : OnOutbox) (limits : RequestLimits) (bytes said : List ℕ) → IsPhase a p → wanted_in o (map_phase f p) ≡ wants.Read
     → StandsIn limits bytes said a (map_phase f p) → HasNoMessage limits bytes
 reads-unfinished f a p o limits bytes said at reads stands =
     let waits = reads-waiting o (map_phase f p) reads in
@@ -183,13 +183,13 @@ reads-unfinished f a p o limits bytes said at reads stands =
     Standing-unfinished limits bytes said a waits.0 (subst (StandsIn limits bytes said a) waits.1 stands) phase.0 phase.1
 
 -- what stands while it wants to read stands as well where nothing is lent
-pub StandsIn-unlent : (limits : BodyLimits) (bytes said : List ℕ) (a : Ahead) (o : OnOutbox) (p : Phase FramedRequest) → wanted_in o p ≡ wants.Read → StandsIn limits bytes said a p → StandsIn limits bytes said (record a { lent = [] }) p
+pub StandsIn-unlent : (limits : RequestLimits) (bytes said : List ℕ) (a : Ahead) (o : OnOutbox) (p : Phase FramedRequest) → wanted_in o p ≡ wants.Read → StandsIn limits bytes said a p → StandsIn limits bytes said (record a { lent = [] }) p
 StandsIn-unlent limits bytes said a o p reads stands =
     let waits = reads-waiting o p reads in
     subst (StandsIn limits bytes said (record a { lent = [] })) (sym waits.1) (Standing-kept limits bytes said a (record a { lent = [] }) waits.0 (subst (StandsIn limits bytes said a) waits.1 stands) refl)
 
 -- a read that brought nothing leaves the history as it is
-pub History-unread : (p : History) (q : Phase Layout) (f g : Layout → FramedRequest) (old new : Ahead) (o : OnOutbox) (limits : BodyLimits) (piece : Option ℕ) → wanted_in o (map_phase f q) ≡ wants.Read → new.held ≡ old.held
+pub History-unread : (p : History) (q : Phase Layout) (f g : Layout → FramedRequest) (old new : Ahead) (o : OnOutbox) (limits : RequestLimits) (piece : Option ℕ) → wanted_in o (map_phase f q) ≡ wants.Read → new.held ≡ old.held
     → HasHistory p (record { read_buffer = old; phase = map_phase f q; write_buffer = o; limits = limits; piece = piece }) → HasHistory p (record { read_buffer = new; phase = map_phase g q; write_buffer = o; limits = limits; piece = piece })
 History-unread p q f g old new o limits piece reads held history =
     let waits = reads-waiting o (map_phase f q) reads in

@@ -8,7 +8,7 @@ use Rattle.tus_steps.specs.Request.{Request}
 use Rattle.tus_steps.specs.declared.method.Method.{Method}
 use Rattle.tus_steps.specs.declared.reply.Reply.{Reply}
 use Rattle.tus_steps.specs.declared.reply.Reply.TheVariants as reply
-use Rattle.http_wire.specs.BodyLimits.{AreSmall}
+use Rattle.http_wire.specs.RequestLimits.{AreSmall}
 use Rattle.http_wire.specs.Conversation.{continue_text}
 use Rattle.http_wire.specs.History.{Answering, AreGiven, History, IsLastSize, NotesBy, NotesInPieces, StandsAfter, StoodInPieces, StopsWith, behind_pieces, noted, noted_before, noted_piece, piece_of}
 use Rattle.http_wire.specs.Incoming.{FramedRequest}
@@ -40,7 +40,7 @@ use Rattle.http_wire.proofs.HistoryLemmas.{History-turned, body-after, onto, sen
 use Rattle.http_wire.proofs.InPiecesLemmas.{noted-last, whole-message, whole-step}
 use Rattle.http_wire.proofs.PhaseLemmas.{IsConnection-after, map-after}
 use Rattle.http_wire.proofs.PieceLemmas.{AreGiven-push, IsTaken-accepted, IsTaken-kept, behind_pieces-push, lent-head, lent-rest, piece-lent, plain-request}
-use Rattle.http_wire.specs.declared.body_limits.BodyLimits.{BodyLimits}
+use Rattle.http_wire.specs.declared.request_limits.RequestLimits.{RequestLimits}
 
 -- the answer to the piece that is lent
 abbrev pub answer_to : PiecedBody → Ahead → ℕ → Reply → Answering
@@ -56,7 +56,8 @@ patched-creates : (reply : Reply) → is_patched reply ≡ true → created_in r
 patched-creates (reply.Options max_size) is = absurd cc
 patched-creates (reply.Created tenant id offset expires) is = absurd cc
 patched-creates (reply.Head row) is = absurd cc
-patched-creates (reply.Content bytes) is = absurd cc
+patched-creates (reply.Content bytes extent) is = absurd cc
+patched-creates (reply.Unsatisfiable len) is = absurd cc
 patched-creates (reply.Patched offset expires) is = refl
 patched-creates reply.Deleted is = absurd cc
 patched-creates (reply.Refused why head at expires) is = absurd cc
@@ -304,7 +305,7 @@ created_none None m reply taken patch none = patched-creates reply (rw patch at 
 created_none (Some id) m reply taken patch none = absurd cc
 
 -- what holds of every connection holds of it as the answer left it
-pub IsConnection-piece : (now : ℕ) (b : PiecedBody) (which : Part) (reply : Reply) (old a : Ahead) (before after : List ℕ) (q : Phase Layout) (limits : BodyLimits) (piece : Option ℕ) → AreSmall limits → piece ≡ Some b.piece → HasPiece old b which
+pub IsConnection-piece : (now : ℕ) (b : PiecedBody) (which : Part) (reply : Reply) (old a : Ahead) (before after : List ℕ) (q : Phase Layout) (limits : RequestLimits) (piece : Option ℕ) → AreSmall limits → piece ≡ Some b.piece → HasPiece old b which
     → AnswersPiece now b which reply old a before after q → IsConnection a q limits piece
 IsConnection-piece now b which reply old a before after q limits piece size is has answers = go which has answers
   where

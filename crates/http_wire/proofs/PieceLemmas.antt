@@ -9,7 +9,7 @@ use Rattle.tus_steps.specs.Method.{is_applied_when_cut, is_patch, is_post, is_ta
 use Rattle.tus_steps.specs.TusFields.{map_fields}
 use Rattle.tus_steps.specs.declared.method.Method.{Method}
 use Rattle.tus_steps.specs.Request.{Request}
-use Rattle.http_wire.specs.BodyLimits.{AreWithin}
+use Rattle.http_wire.specs.RequestLimits.{AreWithin}
 use Rattle.http_wire.specs.Conversation.{continue_text}
 use Rattle.http_wire.specs.HeadText.{head_limit, head_text, whole}
 use Rattle.http_wire.specs.NextMessage.{NextMessage, IsNextMessage, cut_other}
@@ -24,7 +24,7 @@ use Rattle.http_wire.specs.declared.read.layout.Layout.{Layout}
 use Rattle.http_wire.specs.declared.read.pieces.PiecedBody.{PiecedBody}
 use Rattle.http_wire.specs.inside.HeadLayout.{BeginsHead}
 use Rattle.http_wire.proofs.NextMessageLemmas.{BeginsHead-more, BeginsHead-short, IsNextMessage-cut_other, IsNextMessage-cut_patch, IsNextMessage-waits}
-use Rattle.http_wire.specs.declared.body_limits.BodyLimits.{BodyLimits}
+use Rattle.http_wire.specs.declared.request_limits.RequestLimits.{RequestLimits}
 
 -- the bytes of a message whose head is here, with those that are gone
 abbrev with_gone : ℕ → List ℕ → List ℕ → List ℕ
@@ -37,7 +37,7 @@ gone-rest : (n : ℕ) (gone here : List ℕ) → n ≤ length here → drop n (w
 gone-rest n gone here within = drop_at (take n here) (gone ++ drop n here) n (length-take-le n here within)
 
 -- nothing is gone of a body that begins
-pub IsTaken-first : (limits : BodyLimits) (bytes said : List ℕ) (b : PiecedBody) (held : List ℕ) → said ≡ continue_text b.layout.is_waiting → b.given ≡ 0 → b.layout.head_len ≤ length held → BeginsHead limits bytes b.layout held
+pub IsTaken-first : (limits : RequestLimits) (bytes said : List ℕ) (b : PiecedBody) (held : List ℕ) → said ≡ continue_text b.layout.is_waiting → b.given ≡ 0 → b.layout.head_len ≤ length held → BeginsHead limits bytes b.layout held
     → IsTaken limits bytes said [] b held
 IsTaken-first limits bytes said b held says none within begins = record {
   waits = says;
@@ -47,7 +47,7 @@ IsTaken-first limits bytes said b held says none within begins = record {
 }
 
 -- more bytes came
-pub IsTaken-more : (limits : BodyLimits) (bytes got said gone : List ℕ) (b : PiecedBody) (here more : List ℕ) → IsTaken limits bytes said gone b here → more ≡ here ++ got → IsTaken limits (bytes ++ got) said gone b more
+pub IsTaken-more : (limits : RequestLimits) (bytes got said gone : List ℕ) (b : PiecedBody) (here more : List ℕ) → IsTaken limits bytes said gone b here → more ≡ here ++ got → IsTaken limits (bytes ++ got) said gone b more
 IsTaken-more limits bytes got said gone b here more h is =
     let n = b.layout.head_len in
     let head : take n more ≡ take n here = ap (take n) is ∙ take-append-le n here got h.head in
@@ -62,14 +62,14 @@ IsTaken-more limits bytes got said gone b here more h is =
     }
 
 -- the same bytes are here
-pub IsTaken-kept : (limits : BodyLimits) (bytes said gone : List ℕ) (b : PiecedBody) (here there : List ℕ) → IsTaken limits bytes said gone b here → there ≡ here → IsTaken limits bytes said gone b there
+pub IsTaken-kept : (limits : RequestLimits) (bytes said gone : List ℕ) (b : PiecedBody) (here there : List ℕ) → IsTaken limits bytes said gone b here → there ≡ here → IsTaken limits bytes said gone b there
 IsTaken-kept limits bytes said gone b here there h is = subst (IsTaken limits bytes said gone b) (sym is) h
 
 whole-same : (a b c d : List ℕ) → whole a b ≡ whole c d → (a ≡ c) × (b ≡ d)
 whole-same a b c d e = (cc, cc)
 
 -- the bytes that came tell which are gone, and the head
-pub IsTaken-same : (limits : BodyLimits) (bytes got said says gone went : List ℕ) (b : PiecedBody) (here there : List ℕ) → IsTaken limits bytes said gone b here → IsTaken limits (bytes ++ got) says went b there
+pub IsTaken-same : (limits : RequestLimits) (bytes got said says gone went : List ℕ) (b : PiecedBody) (here there : List ℕ) → IsTaken limits bytes said gone b here → IsTaken limits (bytes ++ got) says went b there
     → (went ≡ gone) × (take b.layout.head_len there ≡ take b.layout.head_len here)
 IsTaken-same limits bytes got said says gone went b here there h k =
     let n = b.layout.head_len in
@@ -86,7 +86,7 @@ count-gone n gone here within =
     omega (arith, length-append (take n here) (gone ++ drop n here), length-append gone (drop n here), length-take-le n here within, length-drop n here, within)
 
 -- its client waits for `100 Continue`
-pub IsTaken-waits : (limits : BodyLimits) (bytes said gone : List ℕ) (b : PiecedBody) (here : List ℕ) → IsTaken limits bytes said gone b here → b.layout.is_waiting ≡ true → (f : NextMessage) × IsNextMessage limits bytes f × (waits f ≡ true)
+pub IsTaken-waits : (limits : RequestLimits) (bytes said gone : List ℕ) (b : PiecedBody) (here : List ℕ) → IsTaken limits bytes said gone b here → b.layout.is_waiting ≡ true → (f : NextMessage) × IsNextMessage limits bytes f × (waits f ≡ true)
 IsTaken-waits limits bytes said gone b here h is = IsNextMessage-waits limits bytes b.layout (with_gone b.layout.head_len gone here) h.begins is
 
 -- whether a message with this method and this field is applied when it is cut
@@ -96,7 +96,7 @@ applied m (One span) = (is_applied_when_cut m (field_at [] (One span)), λ head.
 applied m Many = (is_applied_when_cut m (field_at [] Many), λ head. refl)
 
 -- while bytes of the body are lacking, no whole message came
-pub IsTaken-unfinished : (limits : BodyLimits) (bytes said gone : List ℕ) (b : PiecedBody) (here : List ℕ) → IsTaken limits bytes said gone b here → b.given < b.layout.body_len
+pub IsTaken-unfinished : (limits : RequestLimits) (bytes said gone : List ℕ) (b : PiecedBody) (here : List ℕ) → IsTaken limits bytes said gone b here → b.given < b.layout.body_len
     → length here < b.layout.head_len + (b.layout.body_len - b.given) → HasNoMessage limits bytes
 IsTaken-unfinished limits bytes said gone b here h given short = by (applied b.layout.method b.layout.fields.checksum)
   where
@@ -117,7 +117,7 @@ not-applied None m is told other = sym told ∙ other
 not-applied (Some id) m is told other = absurd (true≢false (sym told ∙ other))
 
 -- of a body of which nothing was taken, that is no PATCH, what came is no message
-pub IsTaken-cut : (limits : BodyLimits) (bytes said gone : List ℕ) (b : PiecedBody) (here : List ℕ) → IsTaken limits bytes said gone b here → b.given < b.layout.body_len
+pub IsTaken-cut : (limits : RequestLimits) (bytes said gone : List ℕ) (b : PiecedBody) (here : List ℕ) → IsTaken limits bytes said gone b here → b.given < b.layout.body_len
     → length here < b.layout.head_len + (b.layout.body_len - b.given) → is_patch b.layout.method ≡ false → IsNextMessage limits bytes (cut_other b.layout.is_waiting)
 IsTaken-cut limits bytes said gone b here h given short other =
     let held = with_gone b.layout.head_len gone here in
@@ -125,7 +125,7 @@ IsTaken-cut limits bytes said gone b here h given short other =
     IsNextMessage-cut_other limits bytes b.layout held h.begins (omega (arith, count, h.given, given, short)) (omega (arith, count, h.head)) (λ head. rw other refl)
 
 -- and what came, and what the body lacks, are at most a head and the greatest body
-pub IsTaken-short : (limits : BodyLimits) (most : ℕ) (bytes said gone : List ℕ) (b : PiecedBody) (here : List ℕ) → AreWithin limits most → IsTaken limits bytes said gone b here → b.given < b.layout.body_len
+pub IsTaken-short : (limits : RequestLimits) (most : ℕ) (bytes said gone : List ℕ) (b : PiecedBody) (here : List ℕ) → AreWithin limits most → IsTaken limits bytes said gone b here → b.given < b.layout.body_len
     → length here < b.layout.head_len + (b.layout.body_len - b.given) → length bytes + ((b.layout.head_len + (b.layout.body_len - b.given)) - length here) ≤ head_limit + most
 IsTaken-short limits most bytes said gone b here within h given short =
     let held = with_gone b.layout.head_len gone here in
@@ -133,7 +133,7 @@ IsTaken-short limits most bytes said gone b here within h given short =
     omega (arith, count, h.given, given, BeginsHead-short limits most bytes b.layout held within h.begins (omega (arith, count, h.head)) (omega (arith, count, h.given, given, short)))
 
 -- a piece was taken: it is gone, and the head is here
-pub IsTaken-accepted : (limits : BodyLimits) (bytes said gone lent : List ℕ) (b : PiecedBody) (made : Option ℕ) → IsTaken limits bytes said gone b (lent ++ []) → b.layout.head_len ≤ length lent
+pub IsTaken-accepted : (limits : RequestLimits) (bytes said gone lent : List ℕ) (b : PiecedBody) (made : Option ℕ) → IsTaken limits bytes said gone b (lent ++ []) → b.layout.head_len ≤ length lent
     → IsTaken limits bytes said (gone ++ drop b.layout.head_len lent) (record b { given = b.given + (length lent - b.layout.head_len); created = made }) (take b.layout.head_len lent)
 IsTaken-accepted limits bytes said gone lent b made h within =
     let n = b.layout.head_len in

@@ -1,14 +1,11 @@
 -- A reading of a message, look by look and read by read.
 use Rattle.std.proofs.Common.{◌≡◌, ◌≤◌, ◌+◌, length, ℕ, Bool, true, false, List, [], ◌++◌, Result, Ok, Err, IfOk, IfErr, inl, inr, refl, subst, arith, length-append, append_assoc}
-use Rattle.http_wire.specs.BodyLimits.{AreWithin}
+use Rattle.http_wire.specs.RequestLimits.{AreWithin}
 use Rattle.http_wire.specs.Conversation.{continue_text}
 use Rattle.tus_steps.specs.Method.{is_applied_when_cut}
-use Rattle.tus_steps.specs.declared.method.Method.{Method}
 use Rattle.http_wire.specs.NextMessage.{NextMessage, clean_end, cut_other, IsNextMessage}
 use Rattle.http_wire.specs.Layout.{field_at}
 use Rattle.http_wire.specs.OnConnection.{HasNoMessage}
-use Rattle.http_wire.specs.declared.read.fields.FieldSpan.{FieldSpan}
-use Rattle.http_wire.specs.declared.read.fields.FieldSpan.TheVariants.{Absent, One, Many}
 use Rattle.http_wire.specs.ReadOnWire.{waits}
 use Rattle.http_wire.specs.inside.Ahead.{Ahead}
 use Rattle.http_wire.specs.inside.HeadLayout.{BeginsHead}
@@ -22,10 +19,10 @@ use Rattle.http_wire.proofs.FindLemmas.{Searching-more, Searching-unfinished, un
 use Rattle.http_wire.specs.PiecedBody.{IsTaken}
 use Rattle.http_wire.proofs.PieceLemmas.{applied, IsTaken-more, IsTaken-short, IsTaken-unfinished, IsTaken-waits}
 use Rattle.http_wire.proofs.NextMessageLemmas.{BeginsHead-more, BeginsHead-short, BreaksMessage-unfinished, IsNextMessage-cut_other, IsNextMessage-cut_patch, IsNextMessage-waits}
-use Rattle.http_wire.specs.declared.body_limits.BodyLimits.{BodyLimits}
+use Rattle.http_wire.specs.declared.request_limits.RequestLimits.{RequestLimits}
 
 -- more bytes came
-pub Standing-more : (limits : BodyLimits) (start read got said : List ℕ) (old new : Ahead) (s : Stage) → Standing limits (start ++ read) said old s → Fits old s → new.held ≡ old.held ++ got
+pub Standing-more : (limits : RequestLimits) (start read got said : List ℕ) (old new : Ahead) (s : Stage) → Standing limits (start ++ read) said old s → Fits old s → new.held ≡ old.held ++ got
     → Standing limits (start ++ (read ++ got)) said new s
 Standing-more limits start read got said old new (Head s) h fits e = (h.0, Searching-more start read old.held got new.held s h.1 e)
 Standing-more limits start read got said old new (Body p) h fits e =
@@ -34,7 +31,7 @@ Standing-more limits start read got said old new (Pieces b) h fits e =
     (h.0, subst (λ i. IsTaken limits i said h.0 b new.held) (append_assoc start read got) (IsTaken-more limits (start ++ read) got said h.0 b old.held new.held h.1 e))
 
 -- the same bytes are held
-pub Standing-kept : (limits : BodyLimits) (bytes said : List ℕ) (old new : Ahead) (s : Stage) → Standing limits bytes said old s → new.held ≡ old.held → Standing limits bytes said new s
+pub Standing-kept : (limits : RequestLimits) (bytes said : List ℕ) (old new : Ahead) (s : Stage) → Standing limits bytes said old s → new.held ≡ old.held → Standing limits bytes said new s
 Standing-kept limits bytes said old new (Head s) h e = rw e h
 Standing-kept limits bytes said old new (Body p) h e = rw e h
 Standing-kept limits bytes said old new (Pieces b) h e = rw e h
@@ -64,7 +61,7 @@ continue-due true e = refl
 continue-due false e = absurd cc
 
 -- a client that waits is told to go on, and what came is a message that waits
-pub Standing-waits : (limits : BodyLimits) (bytes : List ℕ) (a : Ahead) (s : Stage) → Standing limits bytes (continue_text true) a s → (f : NextMessage) × IsNextMessage limits bytes f × (waits f ≡ true)
+pub Standing-waits : (limits : RequestLimits) (bytes : List ℕ) (a : Ahead) (s : Stage) → Standing limits bytes (continue_text true) a s → (f : NextMessage) × IsNextMessage limits bytes f × (waits f ≡ true)
 Standing-waits limits bytes a (Head s) h = absurd (said h.0)
   where
     said : continue_text true ≡ [] → ⊥
@@ -73,7 +70,7 @@ Standing-waits limits bytes a (Body p) h = IsNextMessage-waits limits bytes p a.
 Standing-waits limits bytes a (Pieces b) h = IsTaken-waits limits bytes (continue_text true) h.0 b a.held h.1 (continue-due b.layout.is_waiting h.1.waits)
 
 -- where more is needed, there is no message yet
-pub Standing-unfinished : (limits : BodyLimits) (bytes said : List ℕ) (a : Ahead) (s : Stage) → Standing limits bytes said a s → Fits a s → Wants a s → HasNoMessage limits bytes
+pub Standing-unfinished : (limits : RequestLimits) (bytes said : List ℕ) (a : Ahead) (s : Stage) → Standing limits bytes said a s → Fits a s → Wants a s → HasNoMessage limits bytes
 Standing-unfinished limits bytes said a (Head s) h fits wants = elim (BreaksMessage-unfinished limits bytes said h.0 (Searching-unfinished bytes a s h.1 wants)) [
   | inl cut ↦ (cut_other cut.0, cut.2, tt)
   | inr none ↦ (clean_end, none.1, tt)
@@ -96,7 +93,7 @@ IfErr-from (Ok x) p all = tt
 IfErr-from (Err e) p all = all e p
 
 -- what came of a message that needs more, and what its body lacks, are at most a head and the greatest body
-pub Standing-few : (limits : BodyLimits) (most : ℕ) (bytes said : List ℕ) (a : Ahead) (s : Stage) → AreWithin limits most → Standing limits bytes said a s → Fits a s → Wants a s → length bytes + lacking a (Waiting s) ≤ head_limit + most
+pub Standing-few : (limits : RequestLimits) (most : ℕ) (bytes said : List ℕ) (a : Ahead) (s : Stage) → AreWithin limits most → Standing limits bytes said a s → Fits a s → Wants a s → length bytes + lacking a (Waiting s) ≤ head_limit + most
 Standing-few limits most bytes said a (Head s) within h fits wants = omega (arith, unfinished_short bytes (Searching-unfinished bytes a s h.1 wants))
 Standing-few limits most bytes said a (Body p) within h fits wants = BeginsHead-short limits most bytes p a.held within h.1 fits.held wants.0
 Standing-few limits most bytes said a (Pieces b) within h fits wants =

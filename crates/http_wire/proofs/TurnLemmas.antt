@@ -22,9 +22,9 @@ use Rattle.http_wire.specs.declared.read.layout.Layout.{Layout}
 use Rattle.http_wire.specs.declared.incoming.Cut.{Cut}
 use Rattle.http_wire.specs.declared.incoming.Incoming.TheVariants as incoming
 use Rattle.http_wire.specs.declared.refusal.WireRefusal.{WireRefusal}
-use Rattle.http_wire.specs.declared.body_limits.BodyLimits.{BodyLimits}
+use Rattle.http_wire.specs.declared.request_limits.RequestLimits.{RequestLimits}
 
-module _ {A : Type 0} (steps : A → Request → ℕ → Reply → A → Type 0) (limits : BodyLimits) where
+module _ {A : Type 0} (steps : A → Request → ℕ → Reply → A → Type 0) (limits : RequestLimits) where
   -- what passes where a text is written after what was written while a message came in
   abbrev with_text : Exchange A → List ℕ → Exchange A
   with_text x text = record x { text = x.text ++ text }

@@ -1,14 +1,14 @@
 -- What the reading of the next message does to a wire.
-use Rattle.std.proofs.Common.{arith, ◌≡◌, ◌≤◌, ◌++◌, ℕ, length, Bool, true, false, true≢false, List, Option, Result, Ok, Err, IfErr, OnOk, ap, refl, sym, subst, ◌∙◌}
+use Rattle.std.proofs.Common.{arith, ◌≡◌, ◌≤◌, ◌++◌, ℕ, length, Bool, true, false, true≢false, List, Option, Result, Ok, Err, IfErr, OnOk, ap, ap₂, refl, sym, subst, ◌∙◌}
 use Rattle.std.specs.Io.KnownBytes.{Appends, Consumes, IsAtEnd}
-use Rattle.http_wire.specs.BodyLimits.{AreWithin, alike}
+use Rattle.http_wire.specs.RequestLimits.{AreWithin, alike}
 use Rattle.http_wire.specs.Fault.{NamesStream}
 use Rattle.http_wire.specs.Incoming.{FramedRequest, is_cut_by_fault}
 use Rattle.http_wire.specs.OnConnection.{OnConnection}
 use Rattle.http_wire.specs.ReadOnWire.{BreaksMessage, ComesAtEnd, ComesIn, Reads, ReadsOn, TellsEnd, read_limit}
 use Rattle.http_wire.specs.Streams.{Streams}
 use Rattle.http_wire.specs.WireState.{is_open, state_after}
-use Rattle.http_wire.specs.declared.body_limits.BodyLimits.{BodyLimits}
+use Rattle.http_wire.specs.declared.request_limits.RequestLimits.{RequestLimits}
 use Rattle.http_wire.specs.declared.fault.WireFault.{WireFault}
 use Rattle.http_wire.specs.declared.incoming.Cut.TheVariants as cut
 use Rattle.http_wire.specs.declared.incoming.Incoming.{Incoming}
@@ -27,11 +27,11 @@ comes-at-end remaining ended incoming.CutOther tells sees = sees tells
 comes-at-end remaining ended (incoming.Refused why framing) tells sees = tt
 comes-at-end remaining ended incoming.End tells sees = sees tells
 
--- limits that are the same are alike, and within either
-pub alike_is : (limits : BodyLimits) → limits.plain ≡ limits.other → limits ≡ alike limits.other
-alike_is limits same = ap (λ (most : ℕ). record limits { plain = most }) same
+-- limits that are the same, without ranges, are alike, and within either
+pub alike_is : (limits : RequestLimits) → limits.plain ≡ limits.other → limits.ranges ≡ false → limits ≡ alike limits.other
+alike_is limits same none = ap₂ (λ (most : ℕ) (ranges : Bool). record limits { plain = most; ranges = ranges }) same none
 
-alike_within : (limits : BodyLimits) → limits.plain ≡ limits.other → AreWithin limits limits.other
+alike_within : (limits : RequestLimits) → limits.plain ≡ limits.other → AreWithin limits limits.other
 alike_within limits same = (omega (arith, same), omega arith)
 
 -- the reading of the next message on a wire that reads
@@ -42,7 +42,7 @@ module _ {R W : Type 0} (s : Streams R W) (r0 r1 : R) (w0 w1 : W) (c0 c1 : OnCon
       → (SeesEnd (s.remaining r0) c0.read_buffer → SeesEnd (s.remaining r1) c1.read_buffer) → StopsAtEnd r0 r1 c0.read_buffer c1.read_buffer → s.write_failed w1 ≡ false → c1.limits ≡ c0.limits
       → ((most : ℕ) → AreWithin c0.limits most → length got ≤ read_limit most) → Reads s (wire_of r0 w0 c0 st) (wire_of r1 w1 c1 (state_after (Ok i))) (Ok i)
   Reads-came got text i opened wire consumes appends comes tells why end stops writer size few = record {
-    next = (got, text, consumes, appends, subst (λ m. ComesIn m (record { input = c0.read_buffer.held ++ got; text = text }) c1.read_buffer.held i) (size ∙ alike_is c0.limits wire.limits) comes, few c0.limits.other (alike_within c0.limits wire.limits));
+    next = (got, text, consumes, appends, subst (λ m. ComesIn m (record { input = c0.read_buffer.held ++ got; text = text }) c1.read_buffer.held i) (size ∙ alike_is c0.limits wire.limits wire.ranges) comes, few c0.limits.other (alike_within c0.limits wire.limits));
     at_end = comes-at-end (s.remaining r1) c1.read_buffer.ended i tells (end (wire.sound.end opened));
     tells_end = tells;
     stops = stops;
@@ -50,7 +50,7 @@ module _ {R W : Type 0} (s : Streams R W) (r0 r1 : R) (w0 w1 : W) (c0 c1 : OnCon
     writer = writer;
     fault = tt;
     alive = (wire.sound.reader_alive opened, wire.sound.writer_alive (wire.sound.both opened));
-    size = ap (λ (l : BodyLimits). l.other) size;
+    size = ap (λ (l : RequestLimits). l.other) size;
     reads = refl;
     writes = refl;
   }
@@ -84,7 +84,7 @@ module _ {R W : Type 0} (s : Streams R W) (r0 r1 : R) (w0 w1 : W) (c0 c1 : OnCon
           breaks.1,
           breaks.2,
           breaks.3,
-          subst (λ m. BreaksMessage m (record { input = c0.read_buffer.held ++ breaks.0; text = breaks.1 }) f) (alike_is c0.limits wire.limits) breaks.4,
+          subst (λ m. BreaksMessage m (record { input = c0.read_buffer.held ++ breaks.0; text = breaks.1 }) f) (alike_is c0.limits wire.limits wire.ranges) breaks.4,
           breaks.5 c0.limits.other (alike_within c0.limits wire.limits),
         );
         at_end = tt;
@@ -94,7 +94,7 @@ module _ {R W : Type 0} (s : Streams R W) (r0 r1 : R) (w0 w1 : W) (c0 c1 : OnCon
         writer = tt;
         fault = fault;
         alive = (wire.sound.reader_alive opened, wire.sound.writer_alive (wire.sound.both opened));
-        size = ap (λ (l : BodyLimits). l.other) size;
+        size = ap (λ (l : RequestLimits). l.other) size;
         reads = refl;
         writes = refl;
       }

@@ -12,10 +12,10 @@ use Rattle.http_wire.specs.Turns.{FailsToAnswer, Turns}
 use Rattle.http_wire.specs.declared.fault.WireFault.{WireFault}
 use Rattle.http_wire.specs.declared.fault.WireFault.TheVariants.{Read, Write, Memory, Failed}
 use Rattle.http_wire.specs.declared.framing.Framing.{Framing}
-use Rattle.http_wire.specs.declared.body_limits.BodyLimits.{BodyLimits}
+use Rattle.http_wire.specs.declared.request_limits.RequestLimits.{RequestLimits}
 
 -- what makes these steps, over a connection whose bodies have at most these lengths
-module _ {A : Type 0} (steps : A → Request → ℕ → Reply → A → Type 0) (limits : BodyLimits) where
+module _ {A : Type 0} (steps : A → Request → ℕ → Reply → A → Type 0) (limits : RequestLimits) where
   -- The input begins with a PATCH that was cut, which was applied at this moment with the bytes that came, and got no reply.
   pub record AppliesCut (now : ℕ) (x : Exchange A) : Type 0 where
     pub request : Request
@@ -35,7 +35,7 @@ module _ {A : Type 0} (steps : A → Request → ℕ → Reply → A → Type 0)
   BreaksAnswer now x Failed = ⊥
 
 -- what makes these steps, over a connection whose bodies have at most these lengths, at the moments that a clock tells
-module _ {A C : Type 0} (steps : A → Request → ℕ → Reply → A → Type 0) (tells : C → ℕ → C → Type 0) (limits : BodyLimits) where
+module _ {A C : Type 0} (steps : A → Request → ℕ → Reply → A → Type 0) (tells : C → ℕ → C → Type 0) (limits : RequestLimits) where
   -- A turn was broken off by a fault. Either that was while what had come was answered, and the clock was asked once for its
   -- moment; or it was before, and then the clock was not asked, and nothing was answered.
   pub data BreaksAsked (before after : C) (x : Exchange A) (fault : WireFault) : Type 0 where

@@ -11,7 +11,7 @@ use Rattle.http_wire.specs.declared.incoming.Cut.TheVariants.{Fault}
 use Rattle.http_wire.specs.declared.read.pieces.Part.TheVariants.{Cut}
 use Rattle.http_wire.specs.inside.Ahead.{Ahead}
 use Rattle.http_wire.specs.inside.Sending.{empty_write_buffer}
-use Rattle.http_wire.specs.declared.body_limits.BodyLimits.{BodyLimits}
+use Rattle.http_wire.specs.declared.request_limits.RequestLimits.{RequestLimits}
 
 -- one read brought these bytes, or the end of the input where there are none
 pub record Takes (got : List ℕ) (old new : OnConnection) : Type 0 where
@@ -26,7 +26,7 @@ pub record Takes (got : List ℕ) (old new : OnConnection) : Type 0 where
 
 -- a read failed: a PATCH that is applied when it is cut, or a creation behind its first piece, is owed its step, and else the
 -- conversation is over
-abbrev pub BreaksTo : BodyLimits → List ℕ → List ℕ → Ahead → Phase FramedRequest → Type 0
+abbrev pub BreaksTo : RequestLimits → List ℕ → List ℕ → Ahead → Phase FramedRequest → Type 0
 BreaksTo limits bytes said a (Looking s) = ⊥
 BreaksTo limits bytes said a (Waiting s) = ⊥
 BreaksTo limits bytes said a (Owing i) = ComesIn limits (record { input = bytes; text = said }) a.held i × (is_cut_by_fault i ≡ true)

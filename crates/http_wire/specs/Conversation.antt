@@ -6,7 +6,7 @@ use Rattle.tus_steps.specs.declared.reply.Reply.{Reply}
 use Rattle.http_wire.specs.Exchange.{Exchange, last_part}
 use Rattle.http_wire.specs.NextMessage.{NextMessage, message, refused, cut_patch, cut_other, clean_end, IsNextMessage}
 use Rattle.http_wire.specs.ReplyText.{crlf, reply_text, refusal_text}
-use Rattle.http_wire.specs.declared.body_limits.BodyLimits.{BodyLimits}
+use Rattle.http_wire.specs.declared.request_limits.RequestLimits.{RequestLimits}
 use Rattle.http_wire.specs.declared.conversation.Ended.{Ended}
 use Rattle.http_wire.specs.declared.conversation.Ended.TheVariants.{Input, Closed, Cut, Moments}
 
@@ -46,6 +46,6 @@ module _ {A : Type 0} (steps : A → Request → ℕ → Reply → A → Type 0)
   MessageTurn now next clean_end x e = EndsWith Input [] x e
 
   -- the conversation of an input: the k-th message has the k-th moment
-  abbrev pub Conversation : BodyLimits → List ℕ → Course A
+  abbrev pub Conversation : RequestLimits → List ℕ → Course A
   Conversation limits [] x e = EndsWith Moments [] x e
   Conversation limits (now ∷ moments) x e = (f : NextMessage) × IsNextMessage limits x.input f × MessageTurn now (Conversation limits moments) f x e

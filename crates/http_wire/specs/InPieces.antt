@@ -9,13 +9,13 @@ use Rattle.http_wire.specs.ReplyText.{reply_text}
 use Rattle.http_wire.specs.Turns.{Answered}
 use Rattle.http_wire.specs.declared.read.layout.Layout.{Layout}
 use Rattle.http_wire.specs.inside.HeadLayout.{BeginsHead}
-use Rattle.http_wire.specs.declared.body_limits.BodyLimits.{BodyLimits}
+use Rattle.http_wire.specs.declared.request_limits.RequestLimits.{RequestLimits}
 
 -- The bytes that came are a message of this layout, and what is behind it. Its body was taken in pieces but for its last
 -- bytes, and these got a reply. Then the message is answered in pieces, and the connection stays open.
 abbrev pub PiecesAreATurn : Type 0
 PiecesAreATurn =
-    (limits : BodyLimits) (now : ℕ) (bytes : List ℕ) (p : Layout) (head gone last left : List ℕ) (before answered : List Answering) (reply : Reply)
+    (limits : RequestLimits) (now : ℕ) (bytes : List ℕ) (p : Layout) (head gone last left : List ℕ) (before answered : List Answering) (reply : Reply)
     → BeginsHead limits bytes p (head ++ ((gone ++ last) ++ left)) → length head ≡ p.head_len → length gone + length last ≡ p.body_len
     → p.framing.close ≡ false → AreGiven (request_at p head) p.body_len 0 answered gone
     → (rest : List ℕ) → Answered (InPieces Notes) limits now (record {

@@ -42,6 +42,7 @@ request_at p text =
       method = method_behind p.created p.method;
       path = path_behind p.created (path_of (span_bytes head p.target));
       fields = fields_behind p.created (map_fields (field_at head) p.fields);
+      range = p.range;
       body = drop p.head_len text;
       given = p.given;
       more = p.more;

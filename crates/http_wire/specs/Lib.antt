@@ -1,5 +1,5 @@
 pub mod Asking
-pub mod BodyLimits
+pub mod RequestLimits
 pub mod BookStep
 pub mod Clock
 pub mod ConnectionCalls

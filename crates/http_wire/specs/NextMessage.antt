@@ -5,12 +5,13 @@ use Rattle.httparse.specs.Grammar.{RequestHead, ReadsRequest}
 use Rattle.tus_text.specs.Path.{path_of}
 use Rattle.tus_steps.specs.declared.method.Method.{Method}
 use Rattle.tus_steps.specs.declared.method.Method.TheVariants as method
+use Rattle.tus_steps.specs.declared.range.RangeAsked.{RangeAsked}
 use Rattle.tus_steps.specs.Field.{FieldText, absent, one, many}
 use Rattle.tus_steps.specs.Request.{Request}
 use Rattle.tus_steps.specs.Method.{is_applied_when_cut, is_head}
 use Rattle.tus_steps.specs.declared.tus_fields.TusFields.{TusFields}
 use Rattle.tus_steps.specs.TusFields.{fields_by}
-use Rattle.http_wire.specs.BodyLimits.{limit_by}
+use Rattle.http_wire.specs.RequestLimits.{limit_by, range_by}
 use Rattle.http_wire.specs.ConnectionFields.{closes, asks_to_continue}
 use Rattle.http_wire.specs.Fields.{values_named, field_text}
 use Rattle.http_wire.specs.HeadText.{field_limit, HeadText, whole, too_long, cut, nothing, head_text, has_many_lines}
@@ -18,7 +19,7 @@ use Rattle.http_wire.specs.Judge.{judge}
 use Rattle.http_wire.specs.declared.framing.Framing.{Framing}
 use Rattle.http_wire.specs.declared.refusal.WireRefusal.{WireRefusal}
 use Rattle.http_wire.specs.declared.refusal.WireRefusal.TheVariants.{Memory, Head, HeadSize}
-use Rattle.http_wire.specs.declared.body_limits.BodyLimits.{BodyLimits}
+use Rattle.http_wire.specs.declared.request_limits.RequestLimits.{RequestLimits}
 
 -- What an input begins with. A message, with its framing, whether `100 Continue` is due before its body,
 -- and what follows it; a request that the wire refuses; the end of the input inside a body, that of a
@@ -57,12 +58,17 @@ method_in h = method_by h.method (field_text (codes "x-http-method-override") h.
 abbrev pub tus_fields : RequestHead → TusFields FieldText
 tus_fields h = fields_by (λ name. field_text name h.fields)
 
+-- which bytes of an upload a head asks for
+abbrev pub range_in : RequestLimits → RequestHead → RangeAsked
+range_in limits h = range_by limits (field_text (codes "range") h.fields) (field_text (codes "if-range") h.fields)
+
 -- the request of a head with a body
-abbrev pub request_of : RequestHead → List ℕ → Request
-request_of h body = record {
+abbrev pub request_of : RequestLimits → RequestHead → List ℕ → Request
+request_of limits h body = record {
   method = method_in h;
   path = path_of h.target;
   fields = tus_fields h;
+  range = range_in limits h;
   body = body;
   given = 0;
   more = 0;
@@ -85,11 +91,11 @@ abbrev pub unknown_framing : Framing
 unknown_framing = record { bare = false; close = true }
 
 -- the most bytes of the body of a head, by the method in force and by its checksum
-abbrev pub limit_of : BodyLimits → RequestHead → ℕ
+abbrev pub limit_of : RequestLimits → RequestHead → ℕ
 limit_of limits h = limit_by limits (method_in h) (tus_fields h).checksum
 
 -- the length of the body of a head, or why it is refused
-abbrev pub judged : BodyLimits → RequestHead → Result ℕ WireRefusal
+abbrev pub judged : RequestLimits → RequestHead → Result ℕ WireRefusal
 judged limits h =
     judge (limit_of limits h) h.minor (field_text (codes "host") h.fields) (field_text (codes "transfer-encoding") h.fields)
     (field_text (codes "content-length") h.fields)
@@ -99,21 +105,21 @@ abbrev pub is_waiting : RequestHead → ℕ → Bool
 is_waiting h n = h.minor == 1 && asks_to_continue (field_text (codes "expect") h.fields) && nat_lt 0 n
 
 -- a head with a body of n bytes, of which the input has these
-abbrev pub with_body : RequestHead → ℕ → List ℕ → NextMessage
-with_body h n rest =
-    if nat_le n (length rest) then message (request_of h (take n rest)) (framing_of h) (is_waiting h n) (drop n rest)
-    else (if is_applied_when_cut (method_in h) (tus_fields h).checksum then cut_patch (request_of h rest) (framing_of h) (is_waiting h n)
+abbrev pub with_body : RequestLimits → RequestHead → ℕ → List ℕ → NextMessage
+with_body limits h n rest =
+    if nat_le n (length rest) then message (request_of limits h (take n rest)) (framing_of h) (is_waiting h n) (drop n rest)
+    else (if is_applied_when_cut (method_in h) (tus_fields h).checksum then cut_patch (request_of limits h rest) (framing_of h) (is_waiting h n)
     else cut_other (is_waiting h n))
 
 -- a head whose fields were judged, with what follows it
-abbrev pub judged_message : RequestHead → Result ℕ WireRefusal → List ℕ → NextMessage
-judged_message h (Err why) rest = refused why (closing (framing_of h))
-judged_message h (Ok n) rest = with_body h n rest
+abbrev pub judged_message : RequestLimits → RequestHead → Result ℕ WireRefusal → List ℕ → NextMessage
+judged_message limits h (Err why) rest = refused why (closing (framing_of h))
+judged_message limits h (Ok n) rest = with_body limits h n rest
 
 -- a head text that was parsed, with what follows it
-abbrev pub parsed_message : BodyLimits → Option RequestHead → List ℕ → NextMessage
+abbrev pub parsed_message : RequestLimits → Option RequestHead → List ℕ → NextMessage
 parsed_message limits None rest = refused Head unknown_framing
-parsed_message limits (Some h) rest = judged_message h (judged limits h) rest
+parsed_message limits (Some h) rest = judged_message limits h (judged limits h) rest
 
 -- the text as a whole is a request head of httparse's grammar with no more fields than a head may have, or it is none
 abbrev pub Parses : List ℕ → Option RequestHead → Type 0
@@ -126,21 +132,21 @@ abbrev pub sure_room : ℕ
 sure_room = 49152
 
 -- the body of a head with this text may need more memory: it has bytes, and more than there is room for
-abbrev pub OutgrowsRoom : BodyLimits → List ℕ → RequestHead → Type 0
+abbrev pub OutgrowsRoom : RequestLimits → List ℕ → RequestHead → Type 0
 OutgrowsRoom limits text h = (n : ℕ) × (judged limits h ≡ Ok n) × (0 < n) × (sure_room < length text + n)
 
 -- A head that was parsed is refused because there is no memory for its body. The head itself takes none.
-abbrev pub LacksMemory : BodyLimits → List ℕ → Option RequestHead → NextMessage → Type 0
+abbrev pub LacksMemory : RequestLimits → List ℕ → Option RequestHead → NextMessage → Type 0
 LacksMemory limits text None f = ⊥
 LacksMemory limits text (Some h) f = OutgrowsRoom limits text h × (f ≡ refused Memory (closing (framing_of h)))
 
 -- what a whole head text begins
-abbrev pub BeginsWhole : BodyLimits → List ℕ → List ℕ → NextMessage → Type 0
+abbrev pub BeginsWhole : RequestLimits → List ℕ → List ℕ → NextMessage → Type 0
 BeginsWhole limits text rest f =
     (h : Option RequestHead) × Parses text h × ((f ≡ parsed_message limits h rest) ⊎ LacksMemory limits text h f)
 
 -- what a head text begins
-abbrev pub Begins : BodyLimits → HeadText → NextMessage → Type 0
+abbrev pub Begins : RequestLimits → HeadText → NextMessage → Type 0
 Begins limits (whole text rest) f =
     MatchBool (has_many_lines text) (f ≡ refused HeadSize unknown_framing) (BeginsWhole limits text rest f)
 Begins limits too_long f = f ≡ refused HeadSize unknown_framing
@@ -148,5 +154,5 @@ Begins limits cut f = f ≡ cut_other false
 Begins limits nothing f = f ≡ clean_end
 
 -- what an input begins with, where bodies have at most these lengths
-abbrev pub IsNextMessage : BodyLimits → List ℕ → NextMessage → Type 0
+abbrev pub IsNextMessage : RequestLimits → List ℕ → NextMessage → Type 0
 IsNextMessage limits input f = Begins limits (head_text input) f

@@ -22,7 +22,7 @@ use Rattle.http_wire.specs.inside.HeadSearch.{search_start}
 use Rattle.http_wire.specs.inside.Sending.{OnOutbox, empty_write_buffer}
 use Rattle.http_wire.specs.inside.Standing.{Standing, pieced, still}
 use Rattle.http_wire.specs.inside.TurnFinish.{ended_after, turn_cut}
-use Rattle.http_wire.specs.declared.body_limits.BodyLimits.{BodyLimits}
+use Rattle.http_wire.specs.declared.request_limits.RequestLimits.{RequestLimits}
 
 -- What was read and belongs to no message that was answered, how far the connection has come, and what is to be sent. `limits`
 -- has the most bytes of a body. `piece` is how many bytes a piece has, where bodies are taken in pieces.
@@ -30,7 +30,7 @@ pub record OnConnection : Type 0 where
   pub read_buffer : Ahead
   pub phase : Phase FramedRequest
   pub write_buffer : OnOutbox
-  pub limits : BodyLimits
+  pub limits : RequestLimits
   pub piece : Option ℕ
 
 -- this, unless something is to be sent first
@@ -124,7 +124,7 @@ piece_owed a (Stopped r) = None
 
 -- These bytes came since the last message that was answered, and this was said meanwhile; where a message came in, it is what
 -- they begin with.
-abbrev pub StandsIn : BodyLimits → List ℕ → List ℕ → Ahead → Phase FramedRequest → Type 0
+abbrev pub StandsIn : RequestLimits → List ℕ → List ℕ → Ahead → Phase FramedRequest → Type 0
 StandsIn limits bytes said a (Looking s) = Standing limits bytes said a s
 StandsIn limits bytes said a (Waiting s) = Standing limits bytes said a s
 StandsIn limits bytes said a (Owing i) = ComesIn limits (record { input = bytes; text = said }) a.held i
@@ -214,5 +214,5 @@ abbrev pub left : OnConnection → ℕ
 left c = left_in c.read_buffer c.phase c.write_buffer.pending
 
 -- some bytes are no whole message, nor is a message in them that is refused
-abbrev pub HasNoMessage : BodyLimits → List ℕ → Type 0
+abbrev pub HasNoMessage : RequestLimits → List ℕ → Type 0
 HasNoMessage limits bytes = (f : NextMessage) × IsNextMessage limits bytes f × IsCut f

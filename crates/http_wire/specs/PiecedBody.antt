@@ -8,7 +8,7 @@ use Rattle.http_wire.specs.Layout.{field_at, framed_at}
 use Rattle.http_wire.specs.declared.read.layout.Layout.{Layout}
 use Rattle.http_wire.specs.declared.read.pieces.PiecedBody.{PiecedBody}
 use Rattle.http_wire.specs.inside.HeadLayout.{BeginsHead}
-use Rattle.http_wire.specs.declared.body_limits.BodyLimits.{BodyLimits}
+use Rattle.http_wire.specs.declared.request_limits.RequestLimits.{RequestLimits}
 
 -- the message is a PATCH or a POST without a checksum
 abbrev pub IsPlain : Layout → Type 0
@@ -33,7 +33,7 @@ piece_in b text = framed_at text (piece_at b (length text - b.layout.head_len))
 
 -- Some bytes came, and this was said meanwhile. They begin with a message whose head is here. These bytes of its body are gone,
 -- and what came behind them is here, behind the head.
-pub record IsTaken (limits : BodyLimits) (bytes said gone : List ℕ) (b : PiecedBody) (here : List ℕ) : Type 0 where
+pub record IsTaken (limits : RequestLimits) (bytes said gone : List ℕ) (b : PiecedBody) (here : List ℕ) : Type 0 where
   pub waits : said ≡ continue_text b.layout.is_waiting
   pub given : length gone ≡ b.given
   pub head : b.layout.head_len ≤ length here

@@ -8,7 +8,7 @@ use Rattle.http_wire.specs.Judge.{judge_tests}
 use Rattle.http_wire.specs.Refusal.{word_of}
 use Rattle.http_wire.specs.declared.refusal.WireRefusal.{WireRefusal}
 use Rattle.http_wire.specs.declared.refusal.WireRefusal.TheVariants.{Memory, Head, HeadSize}
-use Rattle.http_wire.specs.declared.body_limits.BodyLimits.{BodyLimits}
+use Rattle.http_wire.specs.declared.request_limits.RequestLimits.{RequestLimits}
 
 -- Questions one after another: a test, which holds or not, with its refusal; or whether memory is lacking, which may be so
 -- where this holds, and nowhere else.
@@ -35,14 +35,14 @@ tests_then [] later = later
 tests_then (t ∷ tests) later = test t.0 t.1 (tests_then tests later)
 
 -- what is asked of a head that was parsed: what its fields are tested for, and is there memory for its body
-abbrev pub head_questions : BodyLimits → List ℕ → Option RequestHead → Questions
+abbrev pub head_questions : RequestLimits → List ℕ → Option RequestHead → Questions
 head_questions limits text None = done
 head_questions limits text (Some h) =
     let field = λ (name : List ℕ). field_text name h.fields in
     tests_then (judge_tests (limit_of limits h) h.minor (field (codes "host")) (field (codes "transfer-encoding")) (field (codes "content-length"))) (memory (OutgrowsRoom limits text h) done)
 
 -- what is asked of an input with this head text, which was parsed as this: is it too long, is it no head, and then of the head
-abbrev pub questions : BodyLimits → HeadText → Option RequestHead → Questions
+abbrev pub questions : RequestLimits → HeadText → Option RequestHead → Questions
 questions limits (whole text rest) parsed = test (has_many_lines text) HeadSize (test (is_none parsed) Head (head_questions limits text parsed))
 questions limits too_long parsed = test true HeadSize done
 questions limits cut parsed = done

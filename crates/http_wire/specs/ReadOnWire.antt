@@ -1,7 +1,7 @@
 -- What the reading of the next message tells of the bytes that were read, and of the text that was written meanwhile.
 use Rattle.std.specs.Prelude.{◌≡◌, ◌⊎◌, ◌≤◌, ◌+◌, ℕ, length, Bool, true, false, List, [], ◌++◌, take, Option, Result, Ok, Err, IfOk, OnOk, IfErr, ⊤}
 use Rattle.std.specs.Io.KnownBytes.{Appends, Consumes, IsAtEnd}
-use Rattle.http_wire.specs.BodyLimits.{alike}
+use Rattle.http_wire.specs.RequestLimits.{alike}
 use Rattle.http_wire.specs.Conversation.{continue_text}
 use Rattle.http_wire.specs.NextMessage.{NextMessage, IsNextMessage, message, refused, cut_patch, cut_other, clean_end}
 use Rattle.http_wire.specs.Fault.{NamesStream}
@@ -15,7 +15,7 @@ use Rattle.http_wire.specs.declared.fault.WireFault.TheVariants.{Read, Write, Me
 use Rattle.http_wire.specs.declared.incoming.Cut.TheVariants.{Ended, Fault}
 use Rattle.http_wire.specs.declared.incoming.Incoming.{Incoming}
 use Rattle.http_wire.specs.declared.incoming.Incoming.TheVariants.{Message, CutPatch, CutOther, Refused, End}
-use Rattle.http_wire.specs.declared.body_limits.BodyLimits.{BodyLimits}
+use Rattle.http_wire.specs.declared.request_limits.RequestLimits.{RequestLimits}
 
 -- the most bytes that are read ahead of the next message: a read asks for at most so many beyond what the message lacks
 abbrev pub ahead_limit : ℕ
@@ -32,7 +32,7 @@ pub record Intake : Type 0 where
 
 -- The input begins with what came in. What follows it changes no message and no refusal; after a message, these bytes of
 -- it are left.
-abbrev pub ComesIn : BodyLimits → Intake → List ℕ → Incoming FramedRequest → Type 0
+abbrev pub ComesIn : RequestLimits → Intake → List ℕ → Incoming FramedRequest → Type 0
 ComesIn limits i left (Message m) =
     (waiting : Bool) × (i.text ≡ continue_text waiting)
     × ((rest : List ℕ) → IsNextMessage limits (i.input ++ rest) (message m.request m.framing waiting (left ++ rest)))
@@ -62,7 +62,7 @@ IsCut clean_end = ⊤
 
 -- A read failed, and the bytes that were read would be cut as a whole input, or nothing; or the write of `100 Continue`
 -- failed, and a prefix of it was written.
-abbrev pub BreaksMessage : BodyLimits → Intake → WireFault → Type 0
+abbrev pub BreaksMessage : RequestLimits → Intake → WireFault → Type 0
 BreaksMessage limits i Read =
     ((waiting : Bool) × (i.text ≡ continue_text waiting) × IsNextMessage limits i.input (cut_other waiting))
     ⊎ ((i.text ≡ []) × IsNextMessage limits i.input clean_end)
@@ -72,7 +72,7 @@ BreaksMessage limits i Memory = ⊥
 BreaksMessage limits i Failed = ⊥
 
 -- what a reading gave, and these bytes are left
-abbrev pub ReadsNext : BodyLimits → Intake → List ℕ → Result (Incoming FramedRequest) WireFault → Type 0
+abbrev pub ReadsNext : RequestLimits → Intake → List ℕ → Result (Incoming FramedRequest) WireFault → Type 0
 ReadsNext limits i left (Ok m) = ComesIn limits i left m
 ReadsNext limits i left (Err fault) = BreaksMessage limits i fault
 

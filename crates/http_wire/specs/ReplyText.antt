@@ -6,10 +6,12 @@ use Rattle.tus_text.specs.Date.{expires_text}
 use Rattle.upload_book.specs.declared.refusal.Refusal.{Refusal}
 use Rattle.upload_book.specs.declared.refusal.Refusal.TheVariants as refusal
 use Rattle.upload_book.specs.Refusal.{status_of, word_of}
+use Rattle.tus_steps.specs.declared.range.Extent.{Extent}
+use Rattle.tus_steps.specs.declared.range.Extent.TheVariants.{Plain, Whole, Range}
 use Rattle.tus_steps.specs.declared.reply.PathKind.{PathKind}
 use Rattle.tus_steps.specs.declared.reply.PathKind.TheVariants as place
 use Rattle.tus_steps.specs.declared.reply.Reply.{Reply}
-use Rattle.tus_steps.specs.declared.reply.Reply.TheVariants.{Options, Created, Head, Content, Patched, Deleted, Refused}
+use Rattle.tus_steps.specs.declared.reply.Reply.TheVariants.{Options, Created, Head, Content, Unsatisfiable, Patched, Deleted, Refused}
 use Rattle.http_wire.specs.Refusal as wire
 use Rattle.http_wire.specs.declared.framing.Framing.{Framing}
 use Rattle.http_wire.specs.declared.refusal.WireRefusal.{WireRefusal}
@@ -43,6 +45,7 @@ reasons =
     (200, codes "OK")
     ∷ (201, codes "Created")
     ∷ (204, codes "No Content")
+    ∷ (206, codes "Partial Content")
     ∷ (400, codes "Bad Request")
     ∷ (403, codes "Forbidden")
     ∷ (404, codes "Not Found")
@@ -53,6 +56,7 @@ reasons =
     ∷ (412, codes "Precondition Failed")
     ∷ (413, codes "Content Too Large")
     ∷ (415, codes "Unsupported Media Type")
+    ∷ (416, codes "Range Not Satisfiable")
     ∷ (431, codes "Request Header Fields Too Large")
     ∷ (460, codes "Checksum Mismatch")
     ∷ (503, codes "Service Unavailable")
@@ -73,12 +77,19 @@ unfoldable pub opening : ℕ → ℕ → List ℕ
 opening status now =
     status_line status ++ line (codes "Date") (expires_text now) ++ line (codes "Tus-Resumable") (codes "1.0.0")
 
+-- the status of a reply that gives all bytes of an upload, or some of them
+abbrev pub content_status : Extent → ℕ
+content_status Plain = 200
+content_status Whole = 200
+content_status (Range first last len) = 206
+
 -- the status of a reply
 abbrev pub reply_status : Reply → ℕ
 reply_status (Options max_size) = 204
 reply_status (Created tenant id offset expires) = 201
 reply_status (Head row) = 200
-reply_status (Content bytes) = 200
+reply_status (Content bytes extent) = content_status extent
+reply_status (Unsatisfiable len) = 416
 reply_status (Patched offset expires) = 204
 reply_status Deleted = 204
 reply_status (Refused why head at expires) = status_of why
@@ -134,6 +145,27 @@ abbrev pub location_in : Reply → List ℕ
 location_in (Created tenant id offset expires) = upload_path tenant id
 location_in _ = []
 
+-- ranges are served, as a reply to a GET tells (RFC 9110, section 14.3)
+abbrev pub is_told : Extent → Bool
+is_told Plain = false
+is_told Whole = true
+is_told (Range first last len) = true
+
+abbrev pub tells_ranges : Reply → Bool
+tells_ranges (Content bytes extent) = is_told extent
+tells_ranges _ = false
+
+-- which bytes of how many it gives, or how many there are where it gives none of them (RFC 9110, section 14.4)
+abbrev pub range_of : Extent → List ℕ
+range_of Plain = []
+range_of Whole = []
+range_of (Range first last len) = codes "bytes " ++ decimal first ++ codes "-" ++ decimal last ++ codes "/" ++ decimal len
+
+abbrev pub content_range_in : Reply → List ℕ
+content_range_in (Content bytes extent) = range_of extent
+content_range_in (Unsatisfiable len) = codes "bytes */" ++ decimal len
+content_range_in _ = []
+
 -- how many bytes the upload has
 abbrev pub offset_in : Reply → Option ℕ
 offset_in (Created tenant id offset expires) = offset
@@ -188,6 +220,8 @@ own_fields r =
     ++ text_line (codes "Tus-Checksum-Algorithm") (algorithms_in r)
     ++ text_line (codes "Allow") (allowed_in r)
     ++ text_line (codes "Location") (location_in r)
+    ++ line_if (tells_ranges r) (codes "Accept-Ranges") (codes "bytes")
+    ++ text_line (codes "Content-Range") (content_range_in r)
     ++ number_line (codes "Upload-Offset") (offset_in r)
     ++ length_line r
     ++ text_line (codes "Upload-Metadata") (metadata_in r)
@@ -197,7 +231,8 @@ own_fields r =
 
 -- what a body is: the bytes of an upload, or the word of a refusal
 abbrev pub media_in : Reply → List ℕ
-media_in (Content bytes) = codes "application/octet-stream"
+media_in (Content bytes extent) = codes "application/octet-stream"
+media_in (Unsatisfiable len) = codes "text/plain"
 media_in (Refused why head at expires) = codes "text/plain"
 media_in _ = []
 
@@ -205,9 +240,14 @@ media_in _ = []
 abbrev pub word_body : List ℕ → List ℕ
 word_body word = word ++ 10 ∷ []
 
+-- the word of a GET that asks for a range of bytes of which the upload has none
+abbrev pub range_word : List ℕ
+range_word = codes "range"
+
 -- the body of a reply
 abbrev pub body_in : Reply → List ℕ
-body_in (Content bytes) = bytes
+body_in (Content bytes extent) = bytes
+body_in (Unsatisfiable len) = word_body range_word
 body_in (Refused why head at expires) = word_body (word_of why)
 body_in _ = []
 

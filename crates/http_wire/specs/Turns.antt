@@ -12,7 +12,7 @@ use Rattle.http_wire.specs.declared.conversation.Ended.TheVariants as ended
 use Rattle.http_wire.specs.declared.fault.WireFault.{WireFault}
 use Rattle.http_wire.specs.declared.fault.WireFault.TheVariants as fault
 use Rattle.http_wire.specs.declared.framing.Framing.{Framing}
-use Rattle.http_wire.specs.declared.body_limits.BodyLimits.{BodyLimits}
+use Rattle.http_wire.specs.declared.request_limits.RequestLimits.{RequestLimits}
 
 -- what may follow the bytes that were read: nothing, where the input ended
 abbrev pub MayRemain : Ended → List ℕ → Type 0
@@ -44,7 +44,7 @@ EndsByTurn (Some ended.Cut) = ⊤
 EndsByTurn (Some ended.Moments) = ⊥
 
 -- what makes these steps, over a connection whose bodies have at most these lengths
-module _ {A : Type 0} (steps : A → Request → ℕ → Reply → A → Type 0) (limits : BodyLimits) where
+module _ {A : Type 0} (steps : A → Request → ℕ → Reply → A → Type 0) (limits : RequestLimits) where
   -- The message that the input begins with is answered, which leaves this rest of the input, and the
   -- connection open.
   pub record Answered (now : ℕ) (x : Exchange A) (rest : List ℕ) : Type 0 where

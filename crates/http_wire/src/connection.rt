@@ -2,7 +2,7 @@
 ghost use Rattle.std.specs.Prelude.{◌≡◌, ◌≢◌, ◌⊎◌, ◌≤◌, ◌<◌, ◌+◌, ◌-◌, ◌^◌, ◌++◌, ℕ, List, [], Ok, None, Some, true, false, length, drop, take, Option, IfOk, OnOk, OnErr, IfSome, is_err, is_some, option_map};
 ghost use Rattle.std.specs.Bool.{OnFalse, OnTrue};
 ghost use Rattle.std.specs.Io.KnownBytes.{Appends, Consumes, IsAtEnd, Keeps};
-ghost use Rattle.http_wire.specs.BodyLimits.{AreSmall, AreWithin, alike};
+ghost use Rattle.http_wire.specs.RequestLimits.{AreSmall, AreWithin, alike};
 ghost use Rattle.http_wire.specs.ConnectionCalls.{BreaksTo, Puts, Sends, Takes};
 ghost use Rattle.http_wire.specs.Incoming.{map_incoming, is_cut_by_fault};
 ghost use Rattle.http_wire.specs.Layout.{IsLayoutWithin, framed_at};
@@ -27,7 +27,6 @@ ghost use Rattle.tus_steps.specs.PlacedReply.{reply_in};
 ghost use Rattle.tus_steps.specs.declared.reply.Reply.TheVariants.{Deleted};
 
 use crate::answer::Answer;
-use crate::body_limits::BodyLimits;
 use crate::buffers::Buffers;
 use crate::conversation::Ended;
 use crate::fault::WireFault;
@@ -42,6 +41,7 @@ use crate::read::read_buffer::{READ_SIZE, ReadBuffer};
 use crate::read::stage::{Looked, Stage, lend_all};
 use crate::refusal::WireRefusal;
 use crate::replying::{answer_incoming, turn_cut};
+use crate::request_limits::RequestLimits;
 use crate::source::{Sink, Source};
 use crate::write::send::flush;
 use crate::write::write_buffer::WriteBuffer;
@@ -77,7 +77,7 @@ pub enum Wants {
 pub struct Connection {
     buffers: Buffers,
     phase: Phase<Layout>,
-    limits: BodyLimits,
+    limits: RequestLimits,
     piece: Option<usize>,
 }
 
@@ -122,14 +122,14 @@ impl Connection {
         ensures limits { result.limits ≡ alike max_size }
         ensures gathers { result.piece ≡ None }
     {
-        Connection::by_pieces(buffers, BodyLimits::alike(max_size), None)
+        Connection::by_pieces(buffers, RequestLimits::alike(max_size), None)
     }
 
     /// The same, but it may take bodies in pieces. Bodies have at most as many bytes as `limits` tell, each below 2^62. The body of
     /// a PATCH or a POST without a checksum is taken so if it has more bytes than `piece`, which is above 0. A piece is taken once
     /// so many bytes have come, and has at most 16,384 more. The last piece is taken once the rest has come. Where there is no
     /// `piece`, each body is gathered.
-    pub fn by_pieces(buffers: Buffers, limits: BodyLimits, piece: Option<usize>) -> Self
+    pub fn by_pieces(buffers: Buffers, limits: RequestLimits, piece: Option<usize>) -> Self
         requires limits { AreSmall limits }
         requires some { IfSome piece (λ n. 0 < n) }
         ensures fresh { IsFresh result }
@@ -485,7 +485,7 @@ impl Connection {
 fn look_on(
     stage: Stage,
     buffers: &mut Buffers,
-    limits: BodyLimits,
+    limits: RequestLimits,
     piece: Option<usize>,
 ) -> Phase<Layout>
     requires limits { AreSmall limits }
@@ -583,7 +583,7 @@ fn unless_pending(write_buffer: &WriteBuffer, wants: Wants) -> Wants
 fn broken(stage: Stage, read_buffer: &mut ReadBuffer) -> Phase<Layout>
     requires fits { Fits read_buffer.old stage }
     requires wants { WantsMore read_buffer.old stage }
-    ensures breaks { (limits : BodyLimits) (bytes said : List ℕ) → Standing limits bytes said read_buffer.old stage
+    ensures breaks { (limits : RequestLimits) (bytes said : List ℕ) → Standing limits bytes said read_buffer.old stage
         → BreaksTo limits bytes said read_buffer.new (map_phase (framed_at read_buffer.new.lent) result) }
     ensures phase { IsPhase read_buffer.new result }
     ensures body { StaysBody (pieced stage) (body_in result) }

@@ -1,7 +1,7 @@
 ghost use Rattle.std.specs.Prelude.{◌≡◌, ◌++◌, ℕ, List, None, Some, false, IfOk, IfErr, IfSome, IsErr, OnOk};
 ghost use Rattle.std.specs.Io.KnownBytes.{Appends, Consumes};
 ghost use Rattle.http_wire.specs.Asking.{BreaksAsked};
-ghost use Rattle.http_wire.specs.BodyLimits.{alike};
+ghost use Rattle.http_wire.specs.RequestLimits.{alike};
 ghost use Rattle.http_wire.specs.Clock.{IsTimed};
 ghost use Rattle.http_wire.specs.Conversation.{Conversation};
 ghost use Rattle.http_wire.specs.Fault.{NamesStream, NamesOrMemory};

@@ -1,7 +1,7 @@
 //! A connection over a reader and a writer that wait.
 ghost use Rattle.std.specs.Prelude.{◌≡◌, ◌≤◌, ◌++◌, ℕ, List, length, Err, false, OnOk, IfErr};
 ghost use Rattle.std.specs.Io.KnownBytes.{Appends, Consumes};
-ghost use Rattle.http_wire.specs.BodyLimits.{AreWithin};
+ghost use Rattle.http_wire.specs.RequestLimits.{AreWithin};
 ghost use Rattle.http_wire.specs.Fault.{NamesStream};
 ghost use Rattle.http_wire.specs.ReadOnWire.{BreaksMessage, TellsEnd, read_limit};
 ghost use Rattle.http_wire.specs.inside.Ahead.{SeesEnd, StopsAtEnd};

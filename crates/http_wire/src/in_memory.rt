@@ -1,5 +1,5 @@
 ghost use Rattle.std.specs.Prelude.{◌≡◌, ◌⊎◌, ◌++◌, ℕ, List, Some, false, IfErr, IfOk};
-ghost use Rattle.http_wire.specs.BodyLimits.{alike};
+ghost use Rattle.http_wire.specs.RequestLimits.{alike};
 ghost use Rattle.http_wire.specs.Conversation.{Conversation};
 ghost use Rattle.http_wire.specs.Turns.{Breaks};
 

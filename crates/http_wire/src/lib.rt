@@ -2,7 +2,6 @@
 #![tactic(auto)]
 
 mod answer;
-mod body_limits;
 mod buffers;
 mod clock;
 mod connection;
@@ -20,12 +19,12 @@ mod piece_answer;
 mod read;
 mod refusal;
 mod replying;
+mod request_limits;
 mod source;
 mod wire;
 mod write;
 
 pub use answer::Answer;
-pub use body_limits::BodyLimits;
 pub use buffers::Buffers;
 pub use clock::Clock;
 pub use connection::{Connection, Wants};
@@ -37,6 +36,7 @@ pub use in_memory::conversation_of;
 pub use incoming::{Cut, Incoming};
 pub use message::Message;
 pub use refusal::WireRefusal;
+pub use request_limits::RequestLimits;
 pub use source::{Sink, Source, Tapped};
 pub use wire::Wire;
 pub use write::reply::reply_status;

@@ -1,26 +1,29 @@
 ghost use Rattle.std.specs.Prelude.{◌≡◌};
 ghost use Rattle.tus_steps.specs.Field.{text_of};
-ghost use Rattle.http_wire.specs.BodyLimits.{alike, limit_by};
+ghost use Rattle.http_wire.specs.RequestLimits.{alike, limit_by, range_by};
 
-use tus_steps::{Field, Method};
+use tus_steps::{Field, Method, RangeAsked};
 
-/// The most bytes of a request's body.
+/// What a request may have: the most bytes of its body, and whether a GET may ask for a range of an upload's bytes.
 #[derive(Clone, Copy)]
-pub struct BodyLimits {
-    /// Of a PATCH or a POST without a checksum. It may be taken in pieces.
+pub struct RequestLimits {
+    /// The most bytes of a PATCH or a POST without a checksum. It may be taken in pieces.
     pub plain: u64,
-    /// Of any other request. It is gathered.
+    /// The most bytes of any other request. It is gathered.
     pub other: u64,
+    /// Whether ranges are served. Else the fields for them are ignored, and no reply tells of them.
+    pub ranges: bool,
 }
 
-impl BodyLimits {
-    /// The same for every request.
+impl RequestLimits {
+    /// The same number of bytes for every request, and no ranges.
     pub fn alike(most: u64) -> Self
         ensures { result ≡ alike most }
     {
-        BodyLimits {
+        RequestLimits {
             plain: most,
             other: most,
+            ranges: false,
         }
     }
 
@@ -32,6 +35,16 @@ impl BodyLimits {
             self.plain
         } else {
             self.other
+        }
+    }
+    /// Which bytes a GET with these fields, Range and If-Range, asks for.
+    pub(crate) fn range(self, range: Field<'_>, condition: Field<'_>) -> RangeAsked
+        ensures { result ≡ range_by self (text_of range.entry) (text_of condition.entry) }
+    {
+        if self.ranges {
+            RangeAsked::by(range, condition)
+        } else {
+            RangeAsked::Unserved
         }
     }
 }

@@ -15,7 +15,7 @@ use Rattle.http_wire.specs.declared.read.fields.FieldSpan.TheVariants.{Absent, O
 use Rattle.http_wire.specs.declared.read.fields.Found.{Found}
 use Rattle.http_wire.specs.declared.read.fields.HeadFields.{HeadFields}
 
--- the names of the fields that count, in lower case: for the framing of a message, its method and its connection, and for the steps
+-- the names of the fields that count, in lower case: for the framing of a message, its method, its connection and its range, and for the steps
 abbrev pub counted : List (List ℕ)
 counted =
     codes "host"
@@ -24,6 +24,8 @@ counted =
     ∷ codes "transfer-encoding"
     ∷ codes "x-http-method-override"
     ∷ codes "connection"
+    ∷ codes "range"
+    ∷ codes "if-range"
     ∷ codes "tus-resumable"
     ∷ codes "upload-length"
     ∷ codes "upload-defer-length"
@@ -60,6 +62,8 @@ fields_from at close = record {
   length = at (codes "content-length");
   coding = at (codes "transfer-encoding");
   instead = at (codes "x-http-method-override");
+  range = at (codes "range");
+  condition = at (codes "if-range");
   has_close = close;
   tus = fields_by at;
 }
@@ -121,6 +125,8 @@ pub record AreInside (n : ℕ) (f : HeadFields) : Type 0 where
   pub coding : IsInside n f.coding
   pub expect : IsInside n f.expect
   pub instead : IsInside n f.instead
+  pub range : IsInside n f.range
+  pub condition : IsInside n f.condition
   pub tus : EachField (IsInside n) f.tus
 
 -- what was found in a head is what its fields have
@@ -130,5 +136,7 @@ pub record ShowFields (head : List ℕ) (f : HeadFields) (fields : List Field) :
   pub coding : field_at head f.coding ≡ field_text (codes "transfer-encoding") fields
   pub expect : field_at head f.expect ≡ field_text (codes "expect") fields
   pub instead : field_at head f.instead ≡ field_text (codes "x-http-method-override") fields
+  pub range : field_at head f.range ≡ field_text (codes "range") fields
+  pub condition : field_at head f.condition ≡ field_text (codes "if-range") fields
   pub close : f.has_close ≡ closes (values_named (codes "connection") fields)
   pub tus : map_fields (field_at head) f.tus ≡ fields_by (λ name. field_text name fields)

@@ -6,11 +6,11 @@ use Rattle.httparse.specs.declared.spans.HeaderSpan.{HeaderSpan}
 use Rattle.httparse.specs.declared.spans.RequestSpans.{RequestSpans}
 use Rattle.tus_steps.specs.TusFields.{map_fields}
 use Rattle.http_wire.specs.Layout.{field_at}
-use Rattle.http_wire.specs.NextMessage.{Parses, method_in, tus_fields, framing_of, is_waiting, judged, closing, Begins, refused}
+use Rattle.http_wire.specs.NextMessage.{Parses, method_in, tus_fields, framing_of, range_in, is_waiting, judged, closing, Begins, refused}
 use Rattle.http_wire.specs.declared.read.layout.Layout.{Layout}
 use Rattle.http_wire.specs.HeadText.{whole, has_many_lines, head_text}
 use Rattle.http_wire.specs.declared.read.head.RefusedHead.{RefusedHead}
-use Rattle.http_wire.specs.declared.body_limits.BodyLimits.{BodyLimits}
+use Rattle.http_wire.specs.declared.request_limits.RequestLimits.{RequestLimits}
 
 -- a line that was parsed is that of a head, which is the whole text, with its fields
 pub record IsLine (text : List ℕ) (spans : List HeaderSpan) (line : RequestSpans) (h : RequestHead) : Type 0 where
@@ -26,7 +26,7 @@ pub record HasLine (text : List ℕ) (line : RequestSpans) (h : RequestHead) : T
   pub version : line.version ≡ h.minor
 
 -- the layout is that of a head
-pub record ShowsHead (limits : BodyLimits) (head : List ℕ) (h : RequestHead) (p : Layout) : Type 0 where
+pub record ShowsHead (limits : RequestLimits) (head : List ℕ) (h : RequestHead) (p : Layout) : Type 0 where
   pub method : p.method ≡ method_in h
   pub framing : p.framing ≡ framing_of h
   pub is_waiting : p.is_waiting ≡ is_waiting h p.body_len
@@ -36,20 +36,21 @@ pub record ShowsHead (limits : BodyLimits) (head : List ℕ) (h : RequestHead) (
   pub created : p.created ≡ None
   pub target : span_bytes head p.target ≡ h.target
   pub fields : map_fields (field_at head) p.fields ≡ tus_fields h
+  pub range : p.range ≡ range_in limits h
 
 -- the layout of a head whose fields are judged well, or the refusal by them
-abbrev pub JudgesHead : BodyLimits → List ℕ → RequestHead → Result Layout RefusedHead → Type 0
+abbrev pub JudgesHead : RequestLimits → List ℕ → RequestHead → Result Layout RefusedHead → Type 0
 JudgesHead limits text h (Ok p) = ShowsHead limits text h p
 JudgesHead limits text h (Err e) = (judged limits h ≡ Err e.refusal) × (e.framing ≡ closing (framing_of h))
 
 -- What a head text gives: the layout of its head, or a refusal that an input begins with which begins
 -- with this text, whatever follows it.
-abbrev pub ReadsLayout : BodyLimits → List ℕ → Result Layout RefusedHead → Type 0
+abbrev pub ReadsLayout : RequestLimits → List ℕ → Result Layout RefusedHead → Type 0
 ReadsLayout limits text (Ok p) = (has_many_lines text ≡ false) × ((h : RequestHead) × Parses text (Some h) × ShowsHead limits text h p)
 ReadsLayout limits text (Err e) = (rest : List ℕ) → Begins limits (whole text rest) (refused e.refusal e.framing)
 
 -- these bytes begin with a whole head of this layout, which is held with what follows it
-pub record BeginsHead (limits : BodyLimits) (bytes : List ℕ) (p : Layout) (held : List ℕ) : Type 0 where
+pub record BeginsHead (limits : RequestLimits) (bytes : List ℕ) (p : Layout) (held : List ℕ) : Type 0 where
   pub head : RequestHead
   pub few : has_many_lines (take p.head_len held) ≡ false
   pub parses : Parses (take p.head_len held) (Some head)

@@ -8,7 +8,7 @@ use Rattle.http_wire.specs.declared.incoming.Incoming.{Incoming}
 use Rattle.http_wire.specs.declared.incoming.Incoming.TheVariants.{Message, CutPatch, CutOther, Refused, End}
 use Rattle.http_wire.specs.declared.read.layout.Layout.{Layout}
 use Rattle.http_wire.specs.inside.Ahead.{Ahead}
-use Rattle.http_wire.specs.declared.body_limits.BodyLimits.{BodyLimits}
+use Rattle.http_wire.specs.declared.request_limits.RequestLimits.{RequestLimits}
 
 -- these bytes are those of a message or of a cut PATCH, where there is one
 abbrev pub IsLent : List ℕ → Incoming Layout → Type 0
@@ -19,5 +19,5 @@ IsLent text (Refused why framing) = ⊤
 IsLent text End = ⊤
 
 -- what a reading gave, whose message the read buffer lends
-abbrev pub ReadsIncoming : BodyLimits → Intake → Ahead → Result (Incoming Layout) WireFault → Type 0
+abbrev pub ReadsIncoming : RequestLimits → Intake → Ahead → Result (Incoming Layout) WireFault → Type 0
 ReadsIncoming limits i a r = ReadsNext limits i a.held (map_read (framed_at a.lent) r)

@@ -1,6 +1,6 @@
 -- What holds of every connection at each phase.
 use Rattle.std.specs.Prelude.{⊤, ◌≡◌, ◌≤◌, ◌<◌, ◌+◌, ◌-◌, ℕ, length, min, Option, Some, Ok, IfSome}
-use Rattle.http_wire.specs.BodyLimits.{AreSmall}
+use Rattle.http_wire.specs.RequestLimits.{AreSmall}
 use Rattle.http_wire.specs.Incoming.{map_incoming}
 use Rattle.http_wire.specs.Layout.{framed_at}
 use Rattle.http_wire.specs.ReadOnWire.{TellsEnd}
@@ -13,7 +13,7 @@ use Rattle.http_wire.specs.inside.Ahead.{Ahead}
 use Rattle.http_wire.specs.inside.IncomingLayout.{IsLent}
 use Rattle.http_wire.specs.OnConnection.{body_in}
 use Rattle.http_wire.specs.inside.Standing.{Fits, GathersAt, GathersIn, HasPiece, Wants}
-use Rattle.http_wire.specs.declared.body_limits.BodyLimits.{BodyLimits}
+use Rattle.http_wire.specs.declared.request_limits.RequestLimits.{RequestLimits}
 
 -- the same with what f gives of the message that came in
 abbrev pub map_phase : {M N : Type 0} → (M → N) → Phase M → Phase N
@@ -55,7 +55,7 @@ lacking a (Over r) = 0
 lacking a (Stopped r) = 0
 
 -- A connection whose bodies have at most these lengths, and are taken in pieces of this size, where there are pieces.
-pub record IsConnection (a : Ahead) (p : Phase Layout) (limits : BodyLimits) (piece : Option ℕ) : Type 0 where
+pub record IsConnection (a : Ahead) (p : Phase Layout) (limits : RequestLimits) (piece : Option ℕ) : Type 0 where
   pub size : AreSmall limits
   pub some : IfSome piece (λ n. 0 < n)
   pub phase : IsPhase a p

@@ -2,18 +2,19 @@
 use Rattle.std.specs.Prelude.{ℕ, List, [], ◌++◌}
 use Rattle.upload_book.specs.Refusal.{word_of}
 use Rattle.tus_steps.specs.declared.reply.Reply.{Reply}
-use Rattle.tus_steps.specs.declared.reply.Reply.TheVariants.{Content, Refused}
-use Rattle.http_wire.specs.ReplyText.{reply_head, reply_status, is_bare, body_sent, word_body}
+use Rattle.tus_steps.specs.declared.reply.Reply.TheVariants.{Content, Unsatisfiable, Refused}
+use Rattle.http_wire.specs.ReplyText.{reply_head, reply_status, is_bare, body_sent, range_word, word_body}
 use Rattle.http_wire.specs.declared.framing.Framing.{Framing}
 
 -- a body that is put on the page
 abbrev pub word_in : Reply → List ℕ
+word_in (Unsatisfiable len) = word_body range_word
 word_in (Refused why head at expires) = word_body (word_of why)
 word_in _ = []
 
 -- a body that comes after it
 abbrev pub content_in : Reply → List ℕ
-content_in (Content bytes) = bytes
+content_in (Content bytes extent) = bytes
 content_in _ = []
 
 -- what a reply puts on a page

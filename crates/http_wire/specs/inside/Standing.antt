@@ -25,22 +25,22 @@ use Rattle.http_wire.specs.declared.read.stage.Looked.{Looked}
 use Rattle.http_wire.specs.declared.read.stage.Looked.TheVariants.{More, Continue, Came, Piece}
 use Rattle.http_wire.specs.declared.read.stage.Stage.{Stage}
 use Rattle.http_wire.specs.declared.read.stage.Stage.TheVariants.{Head, Body, Pieces}
-use Rattle.http_wire.specs.declared.body_limits.BodyLimits.{BodyLimits}
+use Rattle.http_wire.specs.declared.request_limits.RequestLimits.{RequestLimits}
 
 -- Some bytes came, of which these are held, and this was said meanwhile. Nothing is said while the head is searched, and
 -- `100 Continue` before the body, where the client waits for it. Some of a body that is taken in pieces may be gone.
-abbrev pub Standing : BodyLimits → List ℕ → List ℕ → Ahead → Stage → Type 0
+abbrev pub Standing : RequestLimits → List ℕ → List ℕ → Ahead → Stage → Type 0
 Standing limits bytes said a (Head s) = (said ≡ []) × Searching bytes a.held s
 Standing limits bytes said a (Body p) = (said ≡ continue_text p.is_waiting) × BeginsHead limits bytes p a.held
 Standing limits bytes said a (Pieces b) = (gone : List ℕ) × IsTaken limits bytes said gone b a.held
 
 -- with these bytes, and with this said meanwhile, this came in, which the read buffer lends
-abbrev pub Comes : BodyLimits → List ℕ → List ℕ → Ahead → Incoming Layout → Type 0
+abbrev pub Comes : RequestLimits → List ℕ → List ℕ → Ahead → Incoming Layout → Type 0
 Comes limits bytes said a i = ComesIn limits (record { input = bytes; text = said }) a.held (map_incoming (framed_at a.lent) i)
 
 -- what a look came to: more is needed; `100 Continue` is due, before which nothing was said; something came in; or a piece is
 -- lent
-abbrev pub LooksOn : BodyLimits → List ℕ → List ℕ → Ahead → Stage → Looked → Type 0
+abbrev pub LooksOn : RequestLimits → List ℕ → List ℕ → Ahead → Stage → Looked → Type 0
 LooksOn limits bytes said a stage More = Standing limits bytes said a stage
 LooksOn limits bytes said a stage Continue = (said ≡ []) × Standing limits bytes (continue_text true) a stage
 LooksOn limits bytes said a stage (Came i) = Comes limits bytes said a i

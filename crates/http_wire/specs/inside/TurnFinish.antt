@@ -18,7 +18,7 @@ use Rattle.http_wire.specs.declared.fault.WireFault.{WireFault}
 use Rattle.http_wire.specs.declared.incoming.Cut.{Cut}
 use Rattle.http_wire.specs.declared.incoming.Cut.TheVariants as cut
 use Rattle.http_wire.specs.declared.incoming.Incoming.{Incoming}
-use Rattle.http_wire.specs.declared.body_limits.BodyLimits.{BodyLimits}
+use Rattle.http_wire.specs.declared.request_limits.RequestLimits.{RequestLimits}
 
 -- the input ended only where no byte of it is left
 abbrev pub EndsTurnAtEnd : Option (List ℕ) → Ahead → Option Ended → Type 0
@@ -37,7 +37,7 @@ turn_cut cut.Fault = Err fault.Read
 
 module _ {A : Type 0} (steps : A → Request → ℕ → Reply → A → Type 0) where
   -- what a turn came to after its message had come: where a fault broke it off, that was while the message was answered
-  abbrev pub FinishesIn : BodyLimits → ℕ → Exchange A → List ℕ → Result (Option Ended) WireFault → Type 0
+  abbrev pub FinishesIn : RequestLimits → ℕ → Exchange A → List ℕ → Result (Option Ended) WireFault → Type 0
   FinishesIn limits now x held (Ok e) = TakesTurn steps limits now x held (Ok e)
   FinishesIn limits now x held (Err fault) = BreaksAnswer steps limits now x fault
 
@@ -45,9 +45,9 @@ module _ {A : Type 0} (steps : A → Request → ℕ → Reply → A → Type 0)
   -- is sent, it is a turn; and where a write fails after a prefix of it, a turn that was broken off. Only a PATCH that a failed
   -- read cut makes it the reader's fault, and then nothing is pending.
   pub record AnswersTurn (now : ℕ) (a : Ahead) (incoming : Incoming FramedRequest) (pending : List ℕ) (before after : A) (r : Result (Option Ended) WireFault) : Type 0 where
-    pub sent : (limits : BodyLimits) (input said : List ℕ) → ComesIn limits (record { input = input; text = said }) a.held incoming
+    pub sent : (limits : RequestLimits) (input said : List ℕ) → ComesIn limits (record { input = input; text = said }) a.held incoming
         → FinishesIn limits now (record { input = input; text = said ++ pending; before = before; after = after }) a.held r
-    pub unsent : (limits : BodyLimits) (n : ℕ) (input said : List ℕ) → ComesIn limits (record { input = input; text = said }) a.held incoming → pending ≢ []
+    pub unsent : (limits : RequestLimits) (n : ℕ) (input said : List ℕ) → ComesIn limits (record { input = input; text = said }) a.held incoming → pending ≢ []
         → BreaksAnswer steps limits now (record { input = input; text = said ++ take n pending; before = before; after = after }) fault.Write
     pub silent : is_cut_by_fault incoming ≡ true → pending ≡ []
     pub end : (remaining : Option (List ℕ)) → SeesEnd remaining a → TellsEnd a.ended (Ok incoming) → IfOk r (EndsTurnAtEnd remaining a)
@@ -59,7 +59,7 @@ module _ {A : Type 0} (steps : A → Request → ℕ → Reply → A → Type 0)
   -- Only a PATCH that a failed read cut makes it the reader's fault, and only a write that failed the writer's.
   pub record FinishesTurn (now : ℕ) (a : Ahead) (incoming : Incoming FramedRequest) (wrote writes : Option (List ℕ)) (failed : Bool) (before after : A)
       (r : Result (Option Ended) WireFault) : Type 0 where
-    pub turn : (limits : BodyLimits) (input said : List ℕ) → ComesIn limits (record { input = input; text = said }) a.held incoming
+    pub turn : (limits : RequestLimits) (input said : List ℕ) → ComesIn limits (record { input = input; text = said }) a.held incoming
         → (text : List ℕ) × Appends wrote writes text × FinishesIn limits now (record { input = input; text = said ++ text; before = before; after = after }) a.held r
     pub end : (remaining : Option (List ℕ)) → SeesEnd remaining a → TellsEnd a.ended (Ok incoming) → IfOk r (EndsTurnAtEnd remaining a)
     pub ends : IfOk r EndsByTurn

@@ -34,11 +34,12 @@ module _ {R W : Type 0} where
     pub writer_alive : w.writes ≡ true → s.write_failed w.writer ≡ false
     pub end : w.reads ≡ true → w.ended ≡ true → IsAtEnd (s.remaining w.reader)
 
-  -- The same of its parts. Both limits of bodies are alike, each body is gathered, and nothing is left to be sent. While it
+  -- The same of its parts. Both limits of bodies are alike, no ranges are served, each body is gathered, and nothing is left to be sent. While it
   -- reads, the next message begins, unless one that came in is left as it is.
   pub record IsWire (s : Streams R W) (reader : R) (writer : W) (c : OnConnection) (state : State) : Type 0 where
     pub sound : IsSound s (wire_of reader writer c state)
     pub limits : c.limits.plain ≡ c.limits.other
+    pub ranges : c.limits.ranges ≡ false
     pub gathers : c.piece ≡ None
     pub sent : c.write_buffer ≡ empty_write_buffer
     pub starts : is_open state ≡ true → passed_over c.phase ≡ at_start

@@ -72,6 +72,9 @@ pub struct HeadFields {
     pub expect: FieldSpan,
     /// `X-HTTP-Method-Override`.
     pub instead: FieldSpan,
+    pub range: FieldSpan,
+    /// `If-Range`.
+    pub condition: FieldSpan,
     /// Whether a Connection field has the token `close`.
     pub has_close: bool,
     /// The fields that count for the steps.
@@ -115,7 +118,7 @@ impl Found {
 }
 
 /// How many names count.
-const NAME_COUNT: usize = 14;
+const NAME_COUNT: usize = 16;
 
 /// The fields that count by their names, which are told without regard to case: where the values of each stand in the head
 /// that was read last. It takes memory only where it is made, since the names are put in there. Between two heads it is
@@ -171,6 +174,8 @@ fn name_all(map: &mut HeaderMap<Found>) -> Result<(), AllocError>
     put(map, HeaderName::from_static("transfer-encoding"))?;
     put(map, HeaderName::from_static("x-http-method-override"))?;
     put(map, HeaderName::from_static("connection"))?;
+    put(map, HeaderName::from_static("range"))?;
+    put(map, HeaderName::from_static("if-range"))?;
     put(map, HeaderName::from_static("tus-resumable"))?;
     put(map, HeaderName::from_static("upload-length"))?;
     put(map, HeaderName::from_static("upload-defer-length"))?;
@@ -214,6 +219,8 @@ fn forget_all(map: &mut HeaderMap<Found>)
     forget(map, b"transfer-encoding");
     forget(map, b"x-http-method-override");
     forget(map, b"connection");
+    forget(map, b"range");
+    forget(map, b"if-range");
     forget(map, b"tus-resumable");
     forget(map, b"upload-length");
     forget(map, b"upload-defer-length");
@@ -267,6 +274,8 @@ fn fields_in(map: &HeaderMap<Found>, number: u64, head: &[u8], spans: &[HeaderSp
     let coding = next_place(&mut found, number);
     let instead = next_place(&mut found, number);
     let connection = next_place(&mut found, number);
+    let range = next_place(&mut found, number);
+    let condition = next_place(&mut found, number);
     let version = next_place(&mut found, number);
     let upload_length = next_place(&mut found, number);
     let defer = next_place(&mut found, number);
@@ -281,6 +290,8 @@ fn fields_in(map: &HeaderMap<Found>, number: u64, head: &[u8], spans: &[HeaderSp
         coding,
         expect,
         instead,
+        range,
+        condition,
         has_close: closes(connection, head, spans),
         tus: TusFields {
             version,

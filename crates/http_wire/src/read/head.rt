@@ -1,7 +1,7 @@
 ghost use Rattle.std.specs.Prelude.{◌≡◌, ◌≤◌, ◌<◌, ◌^◌, None, ℕ, List, length, IfOk, MatchOption};
 ghost use Rattle.httparse.specs.Grammar.{RequestHead};
 ghost use Rattle.httparse.specs.Spans.{IsWithin};
-ghost use Rattle.http_wire.specs.BodyLimits.{AreSmall};
+ghost use Rattle.http_wire.specs.RequestLimits.{AreSmall};
 ghost use Rattle.http_wire.specs.Judge.{judge};
 ghost use Rattle.http_wire.specs.Layout.{IsLayoutWithin, field_at};
 ghost use Rattle.http_wire.specs.inside.HeadFields.{AreInside, ShowFields};
@@ -9,7 +9,6 @@ ghost use Rattle.http_wire.specs.inside.HeadLayout.{HasLine, IsLine, JudgesHead,
 ghost use Rattle.tus_steps.specs.Field.{text_of};
 ghost use Rattle.http_wire.specs.NextMessage.{Parses, method_of, method_by, closing, unknown_framing};
 
-use crate::body_limits::BodyLimits;
 use crate::framing::Framing;
 use crate::read::connection_fields::asks_to_continue;
 use crate::read::fields::{FieldMap, HeadFields};
@@ -17,6 +16,7 @@ use crate::read::head_text::has_many_lines;
 use crate::read::judge::judge;
 use crate::read::layout::Layout;
 use crate::refusal::WireRefusal;
+use crate::request_limits::RequestLimits;
 use httparse::Status;
 use httparse::spans::{HeaderSpan, RequestSpans, parse_request};
 use tus_steps::{Field, Method};
@@ -44,7 +44,7 @@ pub fn read_layout(
     head: &[u8],
     spans: &mut [HeaderSpan; FIELD_LIMIT],
     map: &mut FieldMap,
-    limits: BodyLimits,
+    limits: RequestLimits,
 ) -> Result<Layout, RefusedHead>
     requires limits { AreSmall limits }
     ensures within { IfOk result (λ p. IsLayoutWithin (length head.now) p) }
@@ -79,7 +79,7 @@ fn layout_of(
     line: RequestSpans,
     head: &[u8],
     fields: &HeadFields,
-    limits: BodyLimits,
+    limits: RequestLimits,
 ) -> Result<Layout, RefusedHead>
     requires limits { AreSmall limits }
     requires method { IsWithin (length head.now) line.method }
@@ -116,6 +116,7 @@ fn layout_of(
                 created: None,
                 target: line.path,
                 fields: fields.tus,
+                range: limits.range(fields.range.of(head), fields.condition.of(head)),
             })
         }
     }

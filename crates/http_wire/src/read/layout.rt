@@ -3,7 +3,7 @@ ghost use Rattle.std.specs.Prelude.{◌≡◌, ℕ, List};
 use crate::framing::Framing;
 use crate::read::fields::FieldSpan;
 use httparse::spans::Span;
-use tus_steps::{Method, TusFields};
+use tus_steps::{Method, RangeAsked, TusFields};
 
 /// Where a message stands in its bytes, a head and a body, and what its head says of it.
 #[derive(Clone, Copy)]
@@ -22,6 +22,7 @@ pub struct Layout {
     pub target: Span,
     /// Where the fields that count for the steps stand in the head.
     pub fields: TusFields<FieldSpan>,
+    pub range: RangeAsked,
 }
 
 impl Layout {

@@ -3,7 +3,7 @@ ghost use Rattle.std.specs.Prelude.{◌≡◌, ◌<◌, ◌+◌, ℕ, List, None
 ghost use Rattle.tus_steps.specs.InPieces.{method_behind};
 ghost use Rattle.tus_steps.specs.Method.{is_patch};
 ghost use Rattle.http_wire.specs.PiecedBody.{IsPlain, IsTaken, piece_at, pieced_by};
-ghost use Rattle.http_wire.specs.declared.body_limits.BodyLimits.{BodyLimits};
+ghost use Rattle.http_wire.specs.declared.request_limits.RequestLimits.{RequestLimits};
 ghost use Rattle.http_wire.specs.declared.incoming.Incoming.TheVariants.{CutOther};
 ghost use Rattle.http_wire.specs.declared.read.stage.Looked.TheVariants.{Came};
 ghost use Rattle.http_wire.specs.declared.read.stage.Stage.TheVariants as variants;
@@ -87,7 +87,7 @@ impl PiecedBody {
 /// so has a creation that is given up.
 pub fn look_for_piece(read_buffer: &mut ReadBuffer, body: &PiecedBody) -> Looked
     requires { HasRoomForPiece read_buffer.old body.now }
-    ensures looks { (limits : BodyLimits) (bytes said gone : List ℕ) → IsTaken limits bytes said gone body.now read_buffer.old.held
+    ensures looks { (limits : RequestLimits) (bytes said gone : List ℕ) → IsTaken limits bytes said gone body.now read_buffer.old.held
         → LooksOn limits bytes said read_buffer.new (variants.Pieces body.now) result }
     ensures leaves { Leaves read_buffer.new (variants.Pieces body.now) result }
     ensures nearer { IsNearer (missing read_buffer.old (variants.Pieces body.now)) read_buffer.new

@@ -26,6 +26,7 @@ pub fn request_in<'a>(layout: &Layout, text: &'a [u8]) -> Request<'a>
             checksum: layout.fields.checksum.of(head),
             media: layout.fields.media.of(head),
         },
+        range: layout.range,
         body,
         given: layout.given as u64,
         more: layout.more as u64,

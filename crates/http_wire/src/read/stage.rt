@@ -1,6 +1,6 @@
 //! The reading of a message as steps over what a read buffer holds: no reader and no writer is touched here.
 ghost use Rattle.std.specs.Prelude.{◌≡◌, ◌≤◌, ◌<◌, ◌+◌, ◌^◌, ℕ, List, [], true, false, length, Option, None, IfOk, IfErr, IfSome, OnOk};
-ghost use Rattle.http_wire.specs.BodyLimits.{AreSmall};
+ghost use Rattle.http_wire.specs.RequestLimits.{AreSmall};
 ghost use Rattle.http_wire.specs.Conversation.{continue_text};
 ghost use Rattle.http_wire.specs.HeadText.{head_limit};
 ghost use Rattle.http_wire.specs.Layout.{IsLayoutWithin};
@@ -10,7 +10,6 @@ ghost use Rattle.http_wire.specs.inside.Standing.{Arrives, Comes, Fits, GathersA
 ghost use Rattle.http_wire.specs.declared.read.read_buffer.TheConstants.{READ_SIZE};
 ghost use Rattle.http_wire.specs.declared.read.stage.Stage.TheVariants as variants;
 
-use crate::body_limits::BodyLimits;
 use crate::incoming::{Cut, Incoming};
 use crate::read::fields::FieldMap;
 use crate::read::head::{FIELD_LIMIT, UNKNOWN_FRAMING, closing, read_layout};
@@ -19,6 +18,7 @@ use crate::read::layout::Layout;
 use crate::read::pieces::{Part, PiecedBody, look_for_piece};
 use crate::read::read_buffer::ReadBuffer;
 use crate::refusal::WireRefusal;
+use crate::request_limits::RequestLimits;
 use httparse::spans::HeaderSpan;
 
 /// How far the reading of a message has come.
@@ -62,7 +62,7 @@ impl Stage {
         read_buffer: &mut ReadBuffer,
         spans: &mut [HeaderSpan; FIELD_LIMIT],
         map: &mut FieldMap,
-        limits: BodyLimits,
+        limits: RequestLimits,
         piece: Option<usize>,
     ) -> Looked
         requires limits { AreSmall limits }
@@ -105,7 +105,7 @@ impl Stage {
         requires held { layout.head_len ≤ length read_buffer.old.held }
         requires within { IsLayoutWithin layout.head_len layout }
         requires whole { layout.created ≡ None }
-        ensures looks { (limits : BodyLimits) (bytes : List ℕ) → BeginsHead limits bytes layout read_buffer.old.held
+        ensures looks { (limits : RequestLimits) (bytes : List ℕ) → BeginsHead limits bytes layout read_buffer.old.held
             → LooksOn limits bytes [] read_buffer.new self.new result }
         ensures leaves { Leaves read_buffer.new self.new result }
         ensures nearer { (before : ℕ) → 2 ^ 63 ≤ before → IsNearer before read_buffer.new self.new result }
@@ -146,7 +146,7 @@ fn judge_head(
     read_buffer: &ReadBuffer,
     spans: &mut [HeaderSpan; FIELD_LIMIT],
     map: &mut FieldMap,
-    limits: BodyLimits,
+    limits: RequestLimits,
 ) -> Result<Layout, Incoming<Layout>>
     requires limits { AreSmall limits }
     requires held { IsHeldBy read_buffer.now found }
@@ -183,7 +183,7 @@ fn make_room(
     requires gathered { gathered ≤ layout.now.body_len }
     requires held { layout.now.head_len ≤ length read_buffer.old.held }
     ensures room { OnOk result (layout.now.head_len + gathered + READ_SIZE ≤ read_buffer.new.room) }
-    ensures comes { IfErr result (λ i. (limits : BodyLimits) (bytes : List ℕ) → BeginsHead limits bytes layout.now read_buffer.old.held
+    ensures comes { IfErr result (λ i. (limits : RequestLimits) (bytes : List ℕ) → BeginsHead limits bytes layout.now read_buffer.old.held
         → Comes limits bytes [] read_buffer.new i) }
     ensures arrives { IfErr result (Arrives read_buffer.new) }
     ensures gathers { IfErr result (λ i. (piece : Option ℕ) → GathersIn piece read_buffer.new i) }
@@ -199,7 +199,7 @@ fn make_room(
 // Looks for the body of a message for which there is room.
 fn look_for_body(read_buffer: &mut ReadBuffer, layout: &Layout) -> Looked
     requires { HasRoom read_buffer.old layout.now }
-    ensures looks { (limits : BodyLimits) (bytes : List ℕ) → BeginsHead limits bytes layout.now read_buffer.old.held
+    ensures looks { (limits : RequestLimits) (bytes : List ℕ) → BeginsHead limits bytes layout.now read_buffer.old.held
         → LooksOn limits bytes (continue_text layout.now.is_waiting) read_buffer.new (variants.Body layout.now) result }
     ensures leaves { Leaves read_buffer.new (variants.Body layout.now) result }
     ensures nearer { IsNearer (missing read_buffer.old (variants.Body layout.now)) read_buffer.new

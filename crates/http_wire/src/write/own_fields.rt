@@ -1,11 +1,11 @@
 //! The fields of a reply of the steps, in their order.
-ghost use Rattle.std.specs.Prelude.{◌≡◌, ◌+◌, ◌≤◌, ◌++◌, length, codes};
-ghost use Rattle.http_wire.specs.ReplyText.{own_fields, length_line, declared_line, upload_path, tells_version, extensions_in, max_size_in, algorithms_in, allowed_in, location_in, offset_in, metadata_in, concat_in, expires_in, is_uncached, line, line_if, text_line};
+ghost use Rattle.std.specs.Prelude.{◌≡◌, ◌+◌, ◌≤◌, ◌++◌, decimal, length, codes};
+ghost use Rattle.http_wire.specs.ReplyText.{own_fields, length_line, declared_line, upload_path, tells_version, extensions_in, max_size_in, algorithms_in, allowed_in, location_in, tells_ranges, range_of, content_range_in, offset_in, metadata_in, concat_in, expires_in, is_uncached, line, line_if, text_line};
 ghost use Rattle.tus_steps.specs.PlacedReply.{reply_in};
 
 use crate::write::page::{FIELDS_MAX, LINE_MAX, OPENING_MAX, Page, SHORT_MAX};
 use itoa::Buffer;
-use tus_steps::{PathKind, PlacedReply, ReplyKind};
+use tus_steps::{Extent, PathKind, PlacedReply, ReplyKind};
 use upload_book::{Moment, Refusal};
 
 /// Puts the fields of a reply of the steps.
@@ -21,6 +21,8 @@ pub fn put_own_fields(page: &mut Page, reply: &PlacedReply)
     page.put_text_line(b"Tus-Checksum-Algorithm", algorithms_in(reply));
     page.put_text_line(b"Allow", allowed_in(reply));
     put_location(page, reply);
+    page.put_line_if(tells_ranges(reply), b"Accept-Ranges", b"bytes");
+    put_content_range(page, reply);
     page.put_number_line(b"Upload-Offset", offset_in(reply));
     put_length(page, reply);
     page.put_text_line(b"Upload-Metadata", metadata_in(reply));
@@ -131,6 +133,65 @@ fn put_path(page: &mut Page, tenant: &[u8], id: u64)
     page.put(tenant);
     page.put(b"/");
     page.put(digits.format(id).as_bytes());
+    page.put(b"\r\n");
+}
+
+// Whether it tells that ranges are served.
+fn tells_ranges(reply: &PlacedReply) -> bool
+    ensures { result ≡ tells_ranges (reply_in reply.now) }
+{
+    matches!(
+        &reply.kind,
+        ReplyKind::Content {
+            extent: Extent::Whole | Extent::Range { .. },
+            ..
+        }
+    )
+}
+
+#[tactic(auto, unfolding(crate::specs::ReplyText::text_line))]
+fn put_content_range(page: &mut Page, reply: &PlacedReply)
+    requires { length page.old ≤ SHORT_MAX }
+    ensures text { page.new ≡ page.old ++ text_line (codes "Content-Range") (content_range_in (reply_in reply.now)) }
+    ensures len { length page.new ≤ length page.old + LINE_MAX }
+{
+    match &reply.kind {
+        ReplyKind::Content { extent, .. } => put_range(page, *extent),
+        ReplyKind::Unsatisfiable { len } => put_none_of(page, *len),
+        _ => {}
+    }
+}
+
+// The line of these bytes of an upload.
+#[tactic(auto, unfolding(crate::specs::ReplyText::line, crate::specs::ReplyText::text_line))]
+fn put_range(page: &mut Page, extent: Extent)
+    requires { length page.old ≤ SHORT_MAX }
+    ensures text { page.new ≡ page.old ++ text_line (codes "Content-Range") (range_of extent) }
+    ensures len { length page.new ≤ length page.old + LINE_MAX }
+{
+    let Extent::Range { first, last, len } = extent else {
+        return;
+    };
+    let mut digits = Buffer::new();
+    page.put(b"Content-Range: bytes ");
+    page.put(digits.format(first).as_bytes());
+    page.put(b"-");
+    page.put(digits.format(last).as_bytes());
+    page.put(b"/");
+    page.put(digits.format(len).as_bytes());
+    page.put(b"\r\n");
+}
+
+// The line of a range that has none of so many bytes.
+#[tactic(auto, unfolding(crate::specs::ReplyText::line))]
+fn put_none_of(page: &mut Page, len: u64)
+    requires { length page.old ≤ SHORT_MAX }
+    ensures text { page.new ≡ page.old ++ line (codes "Content-Range") (codes "bytes */" ++ decimal len) }
+    ensures len { length page.new ≤ length page.old + LINE_MAX }
+{
+    let mut digits = Buffer::new();
+    page.put(b"Content-Range: bytes */");
+    page.put(digits.format(len).as_bytes());
     page.put(b"\r\n");
 }
 

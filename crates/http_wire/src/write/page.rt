@@ -24,7 +24,7 @@ pub const LINE_MAX: usize = 100;
 
 /// The most bytes of a page before the two long lines, which are those of metadata and of a
 /// concatenation.
-pub const SHORT_MAX: usize = OPENING_MAX + 8 * LINE_MAX;
+pub const SHORT_MAX: usize = OPENING_MAX + 10 * LINE_MAX;
 
 /// The most bytes of a page with the fields of the steps. Metadata has at most 1,024 bytes, and a
 /// concatenation 2,048.

@@ -1,7 +1,7 @@
 //! The bytes of the replies, put on a page; the bytes of an upload are not copied to it.
 ghost use Rattle.std.specs.Prelude.{◌≡◌, ◌+◌, ◌≤◌, ◌++◌, length, codes};
 ghost use Rattle.http_wire.specs.inside.ReplyPage.{page_text, word_in};
-ghost use Rattle.http_wire.specs.ReplyText.{line, status_line, reason_in, reasons, opening, ending, content_fields, word_body, body_in, media_in, reply_status, refusal_text};
+ghost use Rattle.http_wire.specs.ReplyText.{line, status_line, reason_in, reasons, opening, ending, content_fields, word_body, body_in, content_status, media_in, reply_status, refusal_text};
 ghost use Rattle.http_wire.specs.Refusal as wire;
 ghost use Rattle.tus_steps.specs.PlacedReply.{reply_in};
 
@@ -12,7 +12,7 @@ use crate::write::page::{
     CONTENT_MAX, EARLIER_MAX, ENDING_MAX, FIELDS_MAX, HEAD_MAX, OPENING_MAX, Page,
 };
 use itoa::Buffer;
-use tus_steps::{PlacedReply, ReplyKind};
+use tus_steps::{Extent, PlacedReply, ReplyKind};
 use upload_book::Moment;
 
 /// Puts the bytes of a reply at the moment of its message behind the earlier ones, but for the bytes of an upload, which
@@ -99,6 +99,7 @@ fn reason(status: u16) -> &'static [u8]
         200 => b"OK",
         201 => b"Created",
         204 => b"No Content",
+        206 => b"Partial Content",
         400 => b"Bad Request",
         403 => b"Forbidden",
         404 => b"Not Found",
@@ -109,6 +110,7 @@ fn reason(status: u16) -> &'static [u8]
         412 => b"Precondition Failed",
         413 => b"Content Too Large",
         415 => b"Unsupported Media Type",
+        416 => b"Range Not Satisfiable",
         431 => b"Request Header Fields Too Large",
         460 => b"Checksum Mismatch",
         503 => b"Service Unavailable",
@@ -123,11 +125,26 @@ pub fn reply_status(reply: &PlacedReply) -> u16
 {
     match &reply.kind {
         ReplyKind::Created { .. } => 201,
-        ReplyKind::Head | ReplyKind::Content(_) => 200,
+        ReplyKind::Head => 200,
+        ReplyKind::Content { extent, .. } => content_status(*extent),
+        ReplyKind::Unsatisfiable { .. } => 416,
         ReplyKind::Options { .. } | ReplyKind::Patched { .. } | ReplyKind::Deleted => 204,
         ReplyKind::Refused { refusal, .. } => refusal.status(),
     }
 }
+
+// The status of a reply that gives these bytes of an upload.
+fn content_status(extent: Extent) -> u16
+    ensures { result ≡ content_status extent }
+{
+    match extent {
+        Extent::Plain | Extent::Whole => 200,
+        Extent::Range { .. } => 206,
+    }
+}
+
+// The word of a GET that asks for a range of bytes of which the upload has none.
+const RANGE_WORD: &[u8] = b"range";
 
 // What the body of a reply is.
 fn media_in(reply: &PlacedReply) -> &'static [u8]
@@ -135,8 +152,8 @@ fn media_in(reply: &PlacedReply) -> &'static [u8]
     ensures len { length result.now ≤ 24 }
 {
     match &reply.kind {
-        ReplyKind::Content(_) => b"application/octet-stream",
-        ReplyKind::Refused { .. } => b"text/plain",
+        ReplyKind::Content { .. } => b"application/octet-stream",
+        ReplyKind::Unsatisfiable { .. } | ReplyKind::Refused { .. } => b"text/plain",
         _ => b"",
     }
 }
@@ -145,7 +162,8 @@ fn body_len(reply: &PlacedReply) -> u64
     ensures { result ≡ length (body_in (reply_in reply.now)) }
 {
     match &reply.kind {
-        ReplyKind::Content(content) => content.as_slice().len() as u64,
+        ReplyKind::Content { bytes, .. } => bytes.as_slice().len() as u64,
+        ReplyKind::Unsatisfiable { .. } => RANGE_WORD.len() as u64 + 1,
         ReplyKind::Refused { refusal, .. } => refusal.word().len() as u64 + 1,
         _ => 0,
     }
@@ -156,8 +174,10 @@ fn put_word_of(page: &mut Page, reply: &PlacedReply)
     requires { length page.old ≤ HEAD_MAX }
     ensures { page.new ≡ page.old ++ word_in (reply_in reply.now) }
 {
-    if let ReplyKind::Refused { refusal, .. } = &reply.kind {
-        put_word(page, refusal.word().as_bytes());
+    match &reply.kind {
+        ReplyKind::Unsatisfiable { .. } => put_word(page, RANGE_WORD),
+        ReplyKind::Refused { refusal, .. } => put_word(page, refusal.word().as_bytes()),
+        _ => {}
     }
 }
 

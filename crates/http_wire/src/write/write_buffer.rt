@@ -191,7 +191,7 @@ fn take_content(reply: &mut PlacedReply, framing: Framing) -> Option<Content>
         return None;
     }
     match kind {
-        ReplyKind::Content(content) => Some(content),
+        ReplyKind::Content { bytes, .. } => Some(bytes),
         _ => None,
     }
 }

@@ -1,6 +1,6 @@
 use Rattle.std.proofs.Common.{◌≡◌, ℕ, List, ◌++◌, length, true}
 use Rattle.std.specs.Io.KnownBytes.{Appends, Consumes}
-use Rattle.http_wire.specs.BodyLimits.{alike}
+use Rattle.http_wire.specs.RequestLimits.{alike}
 use Rattle.http_wire.specs.Clock.{Tells}
 use Rattle.http_wire.proofs.ConversationLemmas.{Reached}
 use Rattle.http_wire.proofs.connection_loop.serve.Given as goal

@@ -1,11 +1,11 @@
 use Rattle.std.proofs.Common.{◌≡◌, Ok, Some, ◌+◌, ◌∷◌, ◌++◌, [], take, drop, refl, ap, ◌∙◌, subst, subst₂, sym, take_all, true≢false}
 use Rattle.std.proofs.lemmas.List.{take_more}
 use Rattle.std.proofs.lemmas.Result.{err_from_is_err_and}
-use Rattle.http_wire.specs.BodyLimits.{alike}
+use Rattle.http_wire.specs.RequestLimits.{alike}
 use Rattle.http_wire.specs.Exchange.{Exchange}
 use Rattle.http_wire.specs.OnConnection.{passed_over}
 use Rattle.http_wire.specs.Turns.{Breaks, Converses, TakesTurn}
-use Rattle.http_wire.specs.declared.body_limits.BodyLimits.{BodyLimits}
+use Rattle.http_wire.specs.declared.request_limits.RequestLimits.{RequestLimits}
 use Rattle.http_wire.specs.declared.conversation.Ended.TheVariants as ended
 use Rattle.http_wire.proofs.AheadLemmas.{Appends-more, Appends-none, Consumes-more, Consumes-none}
 use Rattle.http_wire.proofs.ConversationLemmas.{Reached, longer_by, Reached-more, Converses-last, Converses-all, Breaks-after, Converses-known, moments_split, IfErr-from, timed_at}
@@ -62,7 +62,7 @@ returns-in-Some-clause-converses g c =
     let turn = timed_at m (rw c.in-Some.is at c.in_ok-turn.ensures.turn) in
     let x : Exchange _ = record { input = reached.0; text = reached.1; before = c.args.answerer.now; after = c.loop-moment.answerer } in
     let b = c.take_turn.new.answerer in
-    let last = subst (λ (k : BodyLimits). TakesTurn g.A.Answer.steps k m (record { input = c.loop-moment.connection.read_buffer.held ++ turn.0; text = turn.1; before = c.loop-moment.answerer; after = b }) c.take_turn.new.connection.read_buffer.held (Ok (Some c.in-Some.ended))) c.loop-moment.invariant.limits turn.4 in
+    let last = subst (λ (k : RequestLimits). TakesTurn g.A.Answer.steps k m (record { input = c.loop-moment.connection.read_buffer.held ++ turn.0; text = turn.1; before = c.loop-moment.answerer; after = b }) c.take_turn.new.connection.read_buffer.held (Ok (Some c.in-Some.ended))) c.loop-moment.invariant.limits turn.4 in
     let converses = Converses-last g.A.Answer.steps limits (take i ms) (drop (i + 1) ms) m x c.loop-moment.connection.read_buffer.held turn.0 turn.1 b c.in-Some.ended reached.4 last in (
       reached.0 ++ turn.0,
       reached.1 ++ turn.1,

@@ -1,7 +1,7 @@
 use Rattle.std.proofs.Common.{◌++◌, [], ◌≡◌, ◌≢◌, ◌≤◌, ◌+◌, ℕ, List, arith, IfOk, length, ap, refl, sym, ◌∙◌, subst, take, append_assoc}
 use Rattle.std.proofs.lemmas.Result.{err_from_is_err_and}
 use Rattle.std.specs.Io.KnownBytes.{Appends, IsAtEnd}
-use Rattle.http_wire.specs.BodyLimits.{AreWithin}
+use Rattle.http_wire.specs.RequestLimits.{AreWithin}
 use Rattle.http_wire.specs.OnConnection.{OnConnection, Stands, StandsIn, is_looking}
 use Rattle.http_wire.specs.ReadOnWire.{BreaksMessage, read_limit}
 use Rattle.http_wire.specs.declared.fault.WireFault.TheVariants as fault

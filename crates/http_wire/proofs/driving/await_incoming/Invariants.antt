@@ -1,6 +1,6 @@
 use Rattle.std.proofs.Common.{◌≡◌, ◌≤◌, ◌++◌, ℕ, List, length, true, false, None}
 use Rattle.std.specs.Io.KnownBytes.{Appends, Consumes}
-use Rattle.http_wire.specs.BodyLimits.{AreWithin}
+use Rattle.http_wire.specs.RequestLimits.{AreWithin}
 use Rattle.http_wire.specs.OnConnection.{Stands, is_looking, left}
 use Rattle.http_wire.specs.ReadOnWire.{read_limit}
 use Rattle.http_wire.specs.inside.Ahead.{SeesEnd, StopsAtEnd}

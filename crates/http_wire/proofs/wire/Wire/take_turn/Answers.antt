@@ -1,7 +1,7 @@
 use Rattle.std.proofs.Common.{rules, ◌≡◌, true, List, ℕ, Option, Some, None, Result, Ok, Err, IfOk, is_ok, true≢false, ap, sym, ◌∙◌}
 use Rattle.http_wire.specs.TurnOnWire.{EndsAtEnd, goes_on}
 use Rattle.http_wire.specs.WireState.{is_open, is_alive}
-use Rattle.http_wire.specs.declared.body_limits.BodyLimits.{BodyLimits}
+use Rattle.http_wire.specs.declared.request_limits.RequestLimits.{RequestLimits}
 use Rattle.http_wire.specs.declared.conversation.Ended.{Ended}
 use Rattle.http_wire.specs.declared.fault.WireFault.{WireFault}
 use Rattle.http_wire.specs.inside.Ahead.{Ahead}
@@ -34,8 +34,8 @@ returns-after-turn g c =
     rw (← c.self.view_is) (record {
       turn = record {
         reading = λ _. record {
-          turn = rw (alike_is c.self.inside.connection.limits c.self.invariant.limits) at turn.turn;
-          asked = rw (alike_is c.self.inside.connection.limits c.self.invariant.limits) at turn.asked;
+          turn = rw (alike_is c.self.inside.connection.limits c.self.invariant.limits c.self.invariant.ranges) at turn.turn;
+          asked = rw (alike_is c.self.inside.connection.limits c.self.invariant.limits c.self.invariant.ranges) at turn.asked;
           end = ends _ c.take_turn-turn.new.connection.read_buffer c.take_turn-turn.result (c.self.invariant.sound.end reading) turn.end;
           ends = turn.ends;
           stops = turn.stops;
@@ -43,7 +43,7 @@ returns-after-turn g c =
           writer = turn.writer;
           fault = turn.fault;
           alive = (c.self.invariant.sound.reader_alive reading, c.self.invariant.sound.writer_alive alive);
-          size = ap (λ (l : BodyLimits). l.other) turn.limits;
+          size = ap (λ (l : RequestLimits). l.other) turn.limits;
           reads = reads;
           writes = writes;
         };
