@@ -1,5 +1,5 @@
 -- A change is the step of the request that asks for it.
-use Rattle.std.proofs.Common.{◌≡◌, ℕ, false, length, Option, Some, None, Result, Ok, Err, OnOk, OnErr, refl, inl, inr, ap, ◌∙◌, subst, arith}
+use Rattle.std.proofs.Common.{◌≡◌, ℕ, false, length, Option, Some, None, Result, Ok, Err, refl, inl, inr, ap, ◌∙◌, subst}
 use Rattle.upload_book.specs.Append.{append_answer, append_lacking, part_after_append}
 use Rattle.upload_book.specs.Change.{appended_in, gone_removed, outcome_in}
 use Rattle.upload_book.specs.Chunk.{Chunk}
@@ -24,7 +24,7 @@ use Rattle.upload_book.specs.PlainBook.{PlainBook, answer_of, book_after, tenant
 use Rattle.upload_book.specs.Terminate.{terminate_answer}
 use Rattle.upload_book.proofs.Lawful.AppendLemmas.{part_after_append-refused}
 use Rattle.upload_book.proofs.Steps.BookLemmas.{book_after-stays}
-use Rattle.upload_book.proofs.Steps.CreateSteps.{after-empty, empty-answer, none-added}
+use Rattle.upload_book.proofs.Steps.CreateSteps.{empty-lacks, same_after, same_answer}
 use Rattle.upload_book.proofs.Heads.HeadParts.{IsFollowed}
 use Rattle.upload_book.proofs.Heads.HeadsFewer.{heads-terminate}
 use Rattle.upload_book.proofs.Lawful.Outcomes.{part_after_create-refused}
@@ -70,15 +70,6 @@ create-refused : (b : PlainBook) (t : ℕ) (new : NewUpload) (first : FirstChunk
 create-refused b t new first now why is =
     book_after-stays b t (part_after_create new first now b.charged) (part_after_create-refused t b.settings.numbers (tenant_book b t) new first now b.charged why is)
 
--- and what holds of a refusal holds of each answer
-on_err : {A E : Type 0} (answer : Result A E) (P : Type 0) → ((why : E) → answer ≡ Err why → P) → OnErr answer P
-on_err (Ok x) P stays = tt
-on_err (Err why) P stays = stays why refl
-
-on_ok : {A E : Type 0} (answer : Result A E) (P : Type 0) → P → OnOk answer P
-on_ok (Ok x) P p = p
-on_ok (Err why) P p = tt
-
 -- a part without a line stays
 stays-unfollowed : (b after : PlainBook) (head : Option HeadChange) → IsFollowed b after head → head ≡ None → after ≡ b
 stays-unfollowed b after head followed none = (subst (IsFollowed b after) none followed).1
@@ -88,15 +79,13 @@ module _ (b : PlainBook) (r : Request) (now : ℕ) (lawful : IsLawful b) (other 
   create-step : (t : ℕ) (new : NewUpload) → operation_of b.settings r ≡ Ok (operation.Create t new) → IsChangeStep b r now (change_in (asked_for (operation.Create t new)))
   create-step t new asked =
       let answer : Result Created Refusal = answer_of b t (create_answer t new no_chunk now b.charged) in
-      let after : PlainBook = book_after b t (part_after_create new no_chunk now b.charged) in
-      let same = empty-answer b t new now answer lawful (inl refl) in
       record {
-        made = step-by b r now (operation.Create t new) _ after other asked (inl (
-          reply-created r None answer ∙ ap (creation_reply r None) same,
-          after-empty b t new now answer after lawful same (on_ok answer _ refl) (on_err answer _ (λ why is. create-refused b t new no_chunk now why is)),
+        made = step-by b r now (operation.Create t new) _ _ other asked (inl (
+          reply-created r None answer ∙ ap (creation_reply r None) (same_answer b t new now lawful),
+          same_after b t new now lawful,
         ));
         refused = λ why is. let by = refused-by outcome.Created answer why is in create-refused b t new no_chunk now by.0 by.1;
-        lacks = λ lacks. absurd (omega (arith, lacks.1, none-added b.settings.numbers.block_size));
+        lacks = λ lacks. step-by b r now (operation.Create t new) _ b other asked (inr (empty-lacks b t new now lawful lacks, refl, refl));
       }
 
   create_with-step : (t : ℕ) (new : NewUpload) (first : FirstChunk) → operation_of b.settings r ≡ Ok (operation.CreateWith t new first) → IsChangeStep b r now (change_in (asked_for (operation.CreateWith t new first)))

@@ -88,7 +88,7 @@ hindered n next r told why A is shared unhindered = absurd (false≢true (sym un
 
 steps : (b : PlainBook) (t : ℕ) (r : Request) (now : ℕ) (op : Operation) (told : Reply) (after : PlainBook) (n : Numbers) (next : ℕ) → t < length b.tenants → IsOperationStep b r now (moved t op) told after → IsUnhindered n next (r, told) → Steps b t r now op told after
 steps b t r now (operation.Create u new) told after n next within (inl step) unhindered = record { told = step.0; after = changes-with b after t _ within step.1 }
-steps b t r now (operation.Create u new) told after n next within (inr step) unhindered = absurd step.0
+steps b t r now (operation.Create u new) told after n next within (inr step) unhindered = hindered n next r told _ _ step.1 refl unhindered
 steps b t r now (operation.CreateWith u new first) told after n next within (inl step) unhindered = record { told = step.0; after = changes-with b after t _ within step.1 }
 steps b t r now (operation.CreateWith u new first) told after n next within (inr step) unhindered = hindered n next r told _ _ step.1 refl unhindered
 steps b t r now (operation.Concat u new) told after n next within (inl step) unhindered = record { told = step.0; after = changes-with b after t _ within step.1 }

@@ -191,23 +191,28 @@ answered-alike t n part new first now c d same = rw same refl
 left-alike : (n : Numbers) (part : TenantBook) (new : NewUpload) (first : FirstChunk) (now c d : ℕ) → creation_refusal n (account_in n part c) part new first ≡ creation_refusal n (account_in n part d) part new first → part_after_create new first now c n part ≡ part_after_create new first now d n part
 left-alike n part new first now c d same = rw same refl
 
--- and so its answer
+-- so its answer is the one that it has without what was charged,
 module _ (b : PlainBook) (t : ℕ) (new : NewUpload) (now : ℕ) (lawful : IsLawful b) where
-  same_answer : answer_of b t (create_answer t new no_chunk now b.charged) ≡ answer_of b t (create_empty_answer t new now)
+  pub same_answer : answer_of b t (create_answer t new no_chunk now b.charged) ≡ answer_of b t (create_empty_answer t new now)
   same_answer = answered-alike t b.settings.numbers (tenant_book b t) new no_chunk now b.charged 0 (empty-refusal b.settings.numbers (tenant_book b t) new b.charged lawful.last)
+
+  -- and so is the book after it
+  pub same_after : book_after b t (part_after_create new no_chunk now b.charged) ≡ book_after b t (part_after_create_empty new now)
+  same_after = ap (with_tenant_book b t) (left-alike b.settings.numbers (tenant_book b t) new no_chunk now b.charged 0 (empty-refusal b.settings.numbers (tenant_book b t) new b.charged lawful.last))
 
   -- its bytes take no memory
   texts-alone : TakesMemory b.settings.numbers no_chunk → TakesTexts b.settings.numbers
   texts-alone (inl some) = absurd (omega (arith, some, none-added b.settings.numbers.block_size))
   texts-alone (inr texts) = texts
 
+  pub empty-lacks : MayLackMemory b (CreateWith t new no_chunk) now → MayLackMemory b (Create t new) now
+  empty-lacks may = (subst IsOk same_answer may.0, texts-alone may.1)
+
   pub empty-answer : (result : Result Created Refusal) → IsAnswer (answer_of b t (create_answer t new no_chunk now b.charged)) (MayLackMemory b (CreateWith t new no_chunk) now) (Err Memory) result
       → IsAnswer (answer_of b t (create_empty_answer t new now)) (MayLackMemory b (Create t new) now) (Err Memory) result
   empty-answer result (inl is) = inl (is ∙ same_answer)
-  empty-answer result (inr lacks) = inr ((subst IsOk same_answer lacks.0.0, texts-alone lacks.0.1), lacks.1)
+  empty-answer result (inr lacks) = inr (empty-lacks lacks.0, lacks.1)
 
-  -- and the book after it are those that it has without what was charged
   pub after-empty : (result : Result Created Refusal) (after : PlainBook) → OnOk result (after ≡ book_after b t (part_after_create new no_chunk now b.charged)) → OnOk result (after ≡ book_after b t (part_after_create_empty new now))
-  after-empty (Ok told) after accepted =
-      accepted ∙ ap (with_tenant_book b t) (left-alike b.settings.numbers (tenant_book b t) new no_chunk now b.charged 0 (empty-refusal b.settings.numbers (tenant_book b t) new b.charged lawful.last))
+  after-empty (Ok told) after accepted = accepted ∙ same_after
   after-empty (Err why) after accepted = accepted

@@ -2,12 +2,15 @@
 ghost use Rattle.upload_book.specs.Begun.{IsBegun};
 ghost use Rattle.upload_book.specs.Book.{plain_of};
 
-use crate::tests::books::{ACME, BETA, acme, create, end, moment, new_book, new_final, part, send};
+use crate::tests::books::{
+    ACME, BETA, acme, create, end, moment, new_book, new_final, new_upload, numbers, part, send,
+};
+use std::alloc::Global;
 use std::process::Abort;
 use tus_text::check_metadata;
 use upload_book::{
-    Begun, Book, ByteSpan, Chunk, Created, Kind, Moment, Name, NewFinal, NewUpload, Payload,
-    Refusal, Refused,
+    Begun, Book, Bounds, ByteSpan, Chunk, Created, Kind, Moment, Name, NewFinal, NewUpload,
+    Payload, Refusal, Refused, Settings,
 };
 use worked_example::NUMBERS;
 
@@ -64,6 +67,44 @@ fn a_final_upload_keeps_its_texts(rt: HostRuntime) {
     let made = twice(&rt, &mut book);
     assert!(rt; made.name == acme(2) && made.expires.is_none());
     assert_shown(&rt, &book, made, Kind::Final, b"final;/files/acme/1");
+}
+
+// A book in which a tenant may have 65 uploads: memory for their texts is taken as they are created.
+fn book_of_many(rt: &impl Abort, alloc: Global) -> Book {
+    let numbers = numbers!(uploads: 65);
+    let tenants: [(&[u8], u64); 2] = [(ACME, 8), (BETA, 4)];
+    let settings = Settings::within(Bounds::Wide, numbers, &tenants);
+    let settings = settings.expect(rt, "settings");
+    Book::new(alloc, settings).expect(rt, "a book")
+}
+
+#[test]
+fn one_of_many_keeps_its_texts(rt: HostRuntime) {
+    let mut book = book_of_many(&rt, rt.alloc());
+    let made = partial(&rt, &mut book);
+    assert_shown(&rt, &book, made, Kind::Partial, b"partial");
+}
+
+#[test]
+fn a_final_one_of_many_keeps_its_texts(rt: HostRuntime) {
+    let mut book = book_of_many(&rt, rt.alloc());
+    part(&rt, &mut book, b"");
+    let made = twice(&rt, &mut book);
+    end(&rt, &mut book, 1);
+    assert_shown(&rt, &book, made, Kind::Final, b"final;/files/acme/1");
+}
+
+#[test]
+fn the_last_of_many(rt: HostRuntime) {
+    let mut book = book_of_many(&rt, rt.alloc());
+    for _ in 0..65 {
+        create(&rt, &mut book, ACME, None);
+    }
+    let acme = book.settings().tenant(ACME).expect(&rt, "acme");
+    let refused = book.create(acme, new_upload(false, None), moment(&rt, 1000));
+    assert!(&rt; refused == Err(Refusal::Uploads));
+    end(&rt, &mut book, 7);
+    create(&rt, &mut book, ACME, None);
 }
 
 // Asserts that no upload of this name can be seen, read or ended.
