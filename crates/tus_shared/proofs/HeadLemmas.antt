@@ -175,11 +175,11 @@ pub head-asks : (s : Settings) (r : Request) (asks : Asked) → asks ≡ asked_i
 head-asks s r asks is head = is ∙ rw (no-options r.method head.head, head.looks) refl
 
 -- bytes of a GET that were begun stay so as more is seen
-pub begun-later : (s : Settings) (name : Name) (bytes : List ℕ) (events later : List Event) → IsPrefix events later → IsBegun (book_at s events) name bytes → IsBegun (book_at s later) name bytes
-begun-later s name bytes events later prefix begun =
+pub begun-later : (s : Settings) (name : Name) (first : ℕ) (bytes : List ℕ) (events later : List Event) → IsPrefix events later → IsBegun (book_at s events) name first bytes → IsBegun (book_at s later) name first bytes
+begun-later s name first bytes events later prefix begun =
     let after : book_at s later ≡ book_after_all (book_at s events) (map {A = Event} {B = ChangeEvent} change_event prefix.0) =
     ap (book_at s) (sym prefix.1) ∙ after-more (opening_book s) events prefix.0 in
-    subst (λ (b : PlainBook). IsBegun b name bytes) (sym after) (begun-stay (book_at s events) (map {A = Event} {B = ChangeEvent} change_event prefix.0) name bytes begun)
+    subst (λ (b : PlainBook). IsBegun b name first bytes) (sym after) (begun-stay (book_at s events) (map {A = Event} {B = ChangeEvent} change_event prefix.0) name first bytes begun)
 
 -- and so does one that looks again
 pub looks-again : (old between new : Desk) → OnlyLooks old between → OnlyLooks between new → OnlyLooks old new

@@ -8,21 +8,21 @@ use crate::charges::Charges;
 use crate::desk::Desk;
 use journal_records::frame_of;
 use std::sync::ledger::Ledger;
-use tus_steps::Asked;
-use upload_book::{Change, FirstChunk, Moment, Name, NewUpload};
+use tus_steps::{Asked, Request};
+use upload_book::{Begun, ByteSpan, Change, FirstChunk, Moment, Name, NewUpload};
 
 impl<C: Charges, R: Ledger, M: Ledger> Desk<C, R, M> {
     /// Does of what a request asks for what can be done without the lock, so that the lock is held for less. The SHA-1 of a
     /// body is computed where it came with one: that of a PATCH where the heads tell that it will be compared, that of a
-    /// creation where its own fields do. For a GET as much memory is reserved as the heads tell that it needs; there may be
-    /// too little. What is asked for stays what it is. It takes no lock, copies no text, and waits for nobody.
-    pub(crate) fn work_ahead(&mut self, asked: &mut Asked, now: Moment) -> Vec<u8>
+    /// creation where its own fields do. For a GET as much memory is reserved as the heads tell that it needs, for bytes from
+    /// the place on from which it gives some; there may be too little. What is asked for stays what it is. It takes no lock, copies no text, and waits for nobody.
+    pub(crate) fn work_ahead(&mut self, request: &Request, asked: &mut Asked, now: Moment) -> Begun
         ensures asked { asked.new ≡ asked.old }
-        ensures empty { result.items ≡ [] }
+        ensures empty { result.bytes.items ≡ [] }
         ensures desk { OnlyLooks self.old self.new }
     {
         match asked {
-            Asked::Content(name) => return self.content_room(name, now),
+            Asked::Content(name) => return self.content_room(request, name, now),
             Asked::Change(asked) => {
                 if self.may_compare(&asked.change, now) {
                     asked.change.digest();
@@ -30,7 +30,7 @@ impl<C: Charges, R: Ledger, M: Ledger> Desk<C, R, M> {
             }
             Asked::Options | Asked::Refused(_) | Asked::Look(_) => {}
         }
-        Vec::new(self.alloc)
+        self.room_for(ByteSpan::front(0))
     }
 
     // The frame of the record of the change that is asked for, where changes are journalled and there is memory for it.
@@ -54,18 +54,33 @@ impl<C: Charges, R: Ledger, M: Ledger> Desk<C, R, M> {
         frame_of(room, key, now, change)
     }
 
-    // Memory for the bytes of an upload that is complete, as far as the heads tell and there is some.
-    fn content_room(&mut self, name: &Name, now: Moment) -> Vec<u8>
-        ensures empty { result.items ≡ [] }
+    // Memory for the bytes that a GET gives of an upload that is complete, as far as the heads tell and there is some.
+    fn content_room(&mut self, request: &Request, name: &Name, now: Moment) -> Begun
+        ensures empty { result.bytes.items ≡ [] }
         ensures desk { OnlyLooks self.old self.new }
     {
         let len = match self.read_progress(name, now) {
             Some(Ok(progress)) if progress.is_complete() => progress.offset,
             _ => 0,
         };
-        match Vec::with_capacity(self.alloc, len as usize) {
+        let span = match request.range.extent(len) {
+            Some(extent) => extent.span(len),
+            None => ByteSpan::front(0),
+        };
+        self.room_for(span)
+    }
+
+    // Memory for so many bytes from a place on, or for none where there is too little.
+    fn room_for(&self, span: ByteSpan) -> Begun
+        ensures { result.bytes.items ≡ [] }
+    {
+        let bytes = match Vec::with_capacity(self.alloc, span.count as usize) {
             Ok(room) => room,
             Err(_) => Vec::new(self.alloc),
+        };
+        Begun {
+            first: span.first,
+            bytes,
         }
     }
 

@@ -22,7 +22,7 @@ use std::marker::Model;
 use std::sync::Wait;
 use std::sync::ledger::{Ledger, Share};
 use tus_steps::{Asked, PartIds, PlacedReply, Reply, ReplyKind, Request, asked_of};
-use upload_book::{Change, HeadRow, Moment, Name, Progress, Refusal, Settings, Swept};
+use upload_book::{Begun, Change, HeadRow, Moment, Name, Progress, Refusal, Settings, Swept};
 
 /// One of the desks that an opening gives, at which one thread answers its requests. It counts in three shares how many
 /// blocks its own steps charged, how many they released, and how many of them changed the book, and has a reader of the
@@ -288,7 +288,7 @@ impl<C: Charges, R: Ledger, M: Ledger> Desk<C, R, M> {
         ensures missed { self.old.missed ≡ true → self.new.missed ≡ true }
         ensures counted { self.new.steps ≡ next_count self.old.steps }
     {
-        let room = self.work_ahead(&mut asked, now);
+        let room = self.work_ahead(request, &mut asked, now);
         let begun = self.read_ahead(rt, shared, &asked, now, room);
         let frame = self.frame_ahead(&asked, now);
         self.step_locked(
@@ -304,7 +304,7 @@ impl<C: Charges, R: Ledger, M: Ledger> Desk<C, R, M> {
         request: &Request,
         asked: Asked,
         frame: Option<Vec<u8>>,
-        begun: Vec<u8>,
+        begun: Begun,
         now: Moment,
         turn: usize,
         gate: &G,
@@ -312,7 +312,7 @@ impl<C: Charges, R: Ledger, M: Ledger> Desk<C, R, M> {
     )
         requires found { IsFound C.settings request.now asked }
         requires frame { IfSome frame (λ f. IfSome (change_asked asked) (λ found. f.items ≡ change_frame C.journal found.change now)) }
-        requires begun { (name : Name) → asked ≡ asks.Content name → IsBegun (book_at C.settings self.old.seen) name begun.items }
+        requires begun { (name : Name) → asked ≡ asks.Content name → IsBegun (book_at C.settings self.old.seen) name begun.first begun.bytes.items }
         ensures answers { Answers C.settings request.now now (reply_in reply.new) self.old self.new }
         ensures missed { self.new.missed ≡ self.old.missed }
         ensures counted { self.new.steps ≡ next_count self.old.steps }

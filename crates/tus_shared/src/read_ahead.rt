@@ -17,13 +17,13 @@ use crate::store::Store;
 use std::sync::Wait;
 use std::sync::ledger::Ledger;
 use tus_steps::Asked;
-use upload_book::{Moment, Name};
+use upload_book::{Begun, Moment, Name};
 
 // How many bytes of a GET are copied at most with the lock held.
 const RANGE: usize = 262_144;
 
 impl<C: Charges, R: Ledger, M: Ledger> Desk<C, R, M> {
-    /// Copies bytes of the upload that a GET asks for into memory that was reserved for all of them, range by range. The rest,
+    /// Copies the bytes that a GET asks for into memory that was reserved for all of them, range by range. The rest,
     /// less than a range, is left to the step itself, as all is where no memory was reserved. For any other request nothing is
     /// copied. It may wait for other desks.
     pub(crate) fn read_ahead<W: Wait, B: Wait + Drop>(
@@ -32,16 +32,16 @@ impl<C: Charges, R: Ledger, M: Ledger> Desk<C, R, M> {
         shared: &Shared<C, R, M, B>,
         asked: &Asked,
         now: Moment,
-        room: Vec<u8>,
-    ) -> Vec<u8>
-        requires empty { room.items ≡ [] }
-        ensures begun { (name : Name) → asked.now ≡ asks.Content name → IsBegun (book_at C.settings self.new.seen) name result.items }
+        room: Begun,
+    ) -> Begun
+        requires empty { room.bytes.items ≡ [] }
+        ensures begun { (name : Name) → asked.now ≡ asks.Content name → IsBegun (book_at C.settings self.new.seen) name result.first result.bytes.items }
         ensures desk { OnlyLooks self.old self.new }
-        ensures room { vec_capacity room ≤ vec_capacity result }
+        ensures room { vec_capacity room.bytes ≤ vec_capacity result.bytes }
     {
         let mut begun = room;
         if let Asked::Content(name) = asked {
-            for _ in 0..begun.capacity() / RANGE {
+            for _ in 0..begun.bytes.capacity() / RANGE {
                 shared
                     .store
                     .lock(rt)
@@ -53,24 +53,19 @@ impl<C: Charges, R: Ledger, M: Ledger> Desk<C, R, M> {
 }
 
 impl<C: Charges, R: Ledger, M: Ledger, B: Wait + Drop> Store<C, R, M, B> {
-    /// Copies the next bytes of an upload behind its first ones, which `begun` has: 256 KiB, or as many as there are or as there
+    /// Copies the next bytes of an upload behind those that `begun` has: 256 KiB, or as many as there are or as there
     /// is room for ([`upload_book::Book::read_ahead`]). Where a GET at `now` is refused, it copies none. The desk has seen all
     /// events after it, and makes no step.
-    pub fn read_ahead(
-        &self,
-        desk: &mut Desk<C, R, M>,
-        name: &Name,
-        now: Moment,
-        begun: &mut Vec<u8>,
-    )
-        requires begun { IsBegun (book_at C.settings desk.old.seen) name.now begun.old.items }
-        ensures stays { IsBegun (book_at C.settings desk.new.seen) name.now begun.new.items }
-        ensures more { begun.new.items ≡ with_more (answer_of (book_at C.settings self.now) name.now.tenant (content_answer name.now.id now))
-            (min range (vec_capacity begun.old - vec_len begun.old)) begun.old.items }
+    pub fn read_ahead(&self, desk: &mut Desk<C, R, M>, name: &Name, now: Moment, begun: &mut Begun)
+        requires begun { IsBegun (book_at C.settings desk.old.seen) name.now begun.old.first begun.old.bytes.items }
+        ensures stays { IsBegun (book_at C.settings desk.new.seen) name.now begun.new.first begun.new.bytes.items }
+        ensures more { begun.new.bytes.items ≡ with_more (answer_of (book_at C.settings self.now) name.now.tenant (content_answer name.now.id now))
+            begun.old.first (min range (vec_capacity begun.old.bytes - vec_len begun.old.bytes)) begun.old.bytes.items }
+        ensures first { begun.new.first ≡ begun.old.first }
         ensures begins { IsPrefix desk.old.seen desk.new.seen }
         ensures seen { desk.new.seen ≡ self.now }
         ensures desk { OnlySeesMore desk.old desk.new }
-        ensures room { vec_capacity begun.old ≤ vec_capacity begun.new }
+        ensures room { vec_capacity begun.old.bytes ≤ vec_capacity begun.new.bytes }
     {
         self.board.show_to(&mut desk.reader);
         self.book.read_ahead(name, now, begun, RANGE);

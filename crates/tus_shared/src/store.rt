@@ -33,7 +33,7 @@ use std::marker::Model;
 use std::sync::Wait;
 use std::sync::ledger::Ledger;
 use tus_steps::{Asked, PlacedReply, Request, answer_asked};
-use upload_book::{Book, Change, Moment, Outcome, Refused, Swept};
+use upload_book::{Begun, Book, Change, Moment, Outcome, Refused, Swept};
 
 /// What stands behind the lock: the book, the board that shows its heads, and the books of three ledgers, whose totals
 /// are the book's charged and released blocks, and how many changes it accepted; and, where changes are journalled, the
@@ -95,13 +95,13 @@ impl<C: Charges, R: Ledger, M: Ledger, B: Wait + Drop> Store<C, R, M, B> {
         request: &Request,
         asked: Asked,
         frame: Option<Vec<u8>>,
-        begun: Vec<u8>,
+        begun: Begun,
         now: Moment,
         reply: &mut PlacedReply,
     )
         requires found { IsFound C.settings request.now asked }
         requires frame { IfSome frame (λ f. IfSome (change_asked asked) (λ found. f.items ≡ change_frame C.journal found.change now)) }
-        requires begun { (name : Name) → asked ≡ asks.Content name → IsBegun (book_at C.settings desk.old.seen) name begun.items }
+        requires begun { (name : Name) → asked ≡ asks.Content name → IsBegun (book_at C.settings desk.old.seen) name begun.first begun.bytes.items }
         ensures happened { HaveHappened C.settings self.old }
         ensures stays_happened { HaveHappened C.settings self.new }
         ensures lawful { IsLawful (book_at C.settings self.old) }
@@ -115,7 +115,7 @@ impl<C: Charges, R: Ledger, M: Ledger, B: Wait + Drop> Store<C, R, M, B> {
         ensures counted { desk.new.steps ≡ next_count desk.old.steps }
         ensures missed { desk.new.missed ≡ desk.old.missed }
         ensures room { (name : Name) → asked.entry ≡ asks.Content name
-            → IsContentReply (book_at C.settings self.old) request.now now name (vec_capacity begun) (reply_in reply.new) }
+            → IsContentReply (book_at C.settings self.old) request.now now name (vec_capacity begun.bytes) (reply_in reply.new) }
     {
         self.begin(desk);
         match asked {

@@ -15,7 +15,7 @@ loop-preserved g c = record {
 
 pub returns-after-loop-clause-begun : goal.returns-after-loop-clause-begun
 returns-after-loop-clause-begun g c =
-    λ name is. subst (λ (name : Name). IsBegun (book_at g.C.Charges.settings c.loop.self.seen) name c.loop.begun.items) (same (sym c.in-Content.is ∙ is)) c.loop.invariant.begun
+    λ name is. subst (λ (name : Name). IsBegun (book_at g.C.Charges.settings c.loop.self.seen) name c.loop.begun.first c.loop.begun.bytes.items) (same (sym c.in-Content.is ∙ is)) c.loop.invariant.begun
   where
     same : {a b : Name} → asks.Content a ≡ asks.Content b → a ≡ b
     same e = cc

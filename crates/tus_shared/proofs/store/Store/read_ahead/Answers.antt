@@ -17,11 +17,11 @@ read_ahead-requires g c =
     let seen : c.desk.inside.reader.events ≡ c.args.desk.now.seen = ap (λ (d : Desk). d.seen) c.desk.view_is in
     let begins = subst (λ (first : List Event). IsPrefix first events) seen c.show_to.ensures.begins in
     record {
-      begun = subst (λ (b : PlainBook). IsBegun b c.args.name.now c.args.begun.now.items) (sym c.self.invariant.0.at.is)
-          (begun-later s c.args.name.now c.args.begun.now.items c.args.desk.now.seen events begins c.requires.begun);
+      begun = subst (λ (b : PlainBook). IsBegun b c.args.name.now c.args.begun.now.first c.args.begun.now.bytes.items) (sym c.self.invariant.0.at.is)
+          (begun-later s c.args.name.now c.args.begun.now.first c.args.begun.now.bytes.items c.args.desk.now.seen events begins c.requires.begun);
     }
 
 pub returns-clause-more : goal.returns-clause-more
 returns-clause-more g c =
-    let P : PlainBook → Type 0 = λ b. c.read_ahead.new.begun.items ≡ with_more (answer_of b c.args.name.now.tenant (content_answer c.args.name.now.id c.args.now)) (min range (vec_capacity c.args.begun.now - vec_len c.args.begun.now)) c.args.begun.now.items in
+    let P : PlainBook → Type 0 = λ b. c.read_ahead.new.begun.bytes.items ≡ with_more (answer_of b c.args.name.now.tenant (content_answer c.args.name.now.id c.args.now)) c.args.begun.now.first (min range (vec_capacity c.args.begun.now.bytes - vec_len c.args.begun.now.bytes)) c.args.begun.now.bytes.items in
     subst P (c.self.invariant.0.at.is ∙ ap (λ (events : List Event). book_at g.C.Charges.settings events) c.self.view_is) c.read_ahead.ensures.more

@@ -42,5 +42,5 @@ make-outcome-requires-clause-plain g c = request-restores-nothing g.C.Charges.se
 pub answer_asked-requires-clause-begun : goal.answer_asked-requires-clause-begun
 answer_asked-requires-clause-begun g c =
     let s = g.C.Charges.settings in
-    λ name is. subst (λ (b : PlainBook). IsBegun b name c.args.begun.items) (sym c.headline.ensures.stands)
-    (begun-later s name c.args.begun.items c.args.desk.now.seen c.args.self.now c.begin.ensures.begins (c.requires.begun name is))
+    λ name is. subst (λ (b : PlainBook). IsBegun b name c.args.begun.first c.args.begun.bytes.items) (sym c.headline.ensures.stands)
+    (begun-later s name c.args.begun.first c.args.begun.bytes.items c.args.desk.now.seen c.args.self.now c.begin.ensures.begins (c.requires.begun name is))
