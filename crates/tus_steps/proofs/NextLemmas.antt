@@ -113,7 +113,7 @@ tells-op tenant b t r now (operation.Append name chunk) reply after within is (i
     tells-made tenant b t r now (operation.Append name chunk) reply after is step.0 (changes-with b after t _ within step.1)
 tells-op tenant b t r now (operation.Terminate name) reply after within is (inl step) =
     tells-made tenant b t r now (operation.Terminate name) reply after is step.0 (changes-with b after t _ within step.1)
-tells-op tenant b t r now (operation.Create u new) reply after within is (inr step) = absurd step.0
+tells-op tenant b t r now (operation.Create u new) reply after within is (inr step) = tells-lacks tenant b reply _ after step.1 step.2 refl
 tells-op tenant b t r now (operation.CreateWith u new first) reply after within is (inr step) = tells-lacks tenant b reply _ after step.1 step.2 refl
 tells-op tenant b t r now (operation.Concat u new) reply after within is (inr step) = tells-lacks tenant b reply _ after step.1 step.2 refl
 tells-op tenant b t r now (operation.Look name) reply after within is (inr step) = absurd step.0
