@@ -6,7 +6,7 @@ use Rattle.tus_steps.specs.declared.reply.Reply.{Reply}
 use Rattle.http_wire.specs.Clock.{Tells}
 use Rattle.http_wire.specs.OnConnection.{IsFresh, OnConnection}
 use Rattle.http_wire.specs.History.{Follows, HasHistory, History, answer_moments, gave}
-use Rattle.http_wire.specs.declared.body_limits.BodyLimits.{BodyLimits}
+use Rattle.http_wire.specs.declared.request_limits.RequestLimits.{RequestLimits}
 
 -- what stands around a connection: what answers on it, the clock, and, where they are known, the bytes that its reader has left
 -- and all that its writer was given
@@ -70,11 +70,11 @@ SendsOn old new before after = (p : History) → HasHistory p old → (given : L
 
 -- A history of a client whose bodies have at most these lengths, and are taken in pieces of this size, where there are pieces.
 -- Its connection may be put away while it is silent: then each new one has that history.
-abbrev pub HasHistoryWithin : BodyLimits → Option ℕ → History → Option OnConnection → Type 0
+abbrev pub HasHistoryWithin : RequestLimits → Option ℕ → History → Option OnConnection → Type 0
 HasHistoryWithin limits piece p None = (c : OnConnection) → IsFresh c → c.limits ≡ limits → c.piece ≡ piece → HasHistory p c
 HasHistoryWithin limits piece p (Some c) = HasHistory p c × (c.limits ≡ limits) × (c.piece ≡ piece)
 
 -- the same of a client whose connection may be put away
-abbrev pub SendsOnWithin : BodyLimits → Option ℕ → Option OnConnection → Option OnConnection → Option (List ℕ) → Option (List ℕ) → Type 0
+abbrev pub SendsOnWithin : RequestLimits → Option ℕ → Option OnConnection → Option OnConnection → Option (List ℕ) → Option (List ℕ) → Type 0
 SendsOnWithin limits piece old new before after =
     (p : History) → HasHistoryWithin limits piece p old → (given : List ℕ) × Appends before after given × HasHistoryWithin limits piece (gave p given) new

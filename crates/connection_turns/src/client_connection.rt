@@ -1,7 +1,7 @@
 //! A client that a worker holds beside others.
 ghost use Rattle.std.specs.Prelude.{◌≡◌, ◌<◌, ◌≤◌, ◌^◌, ◌-◌, Some, None, true, IfOk, IfSome, OnErr, nat_lt, if◌then◌else◌};
 ghost use Rattle.std.proofs.Props.{props};
-ghost use Rattle.http_wire.specs.BodyLimits.{AreSmall};
+ghost use Rattle.http_wire.specs.RequestLimits.{AreSmall};
 ghost use Rattle.http_wire.specs.History.{HasHistory, History, nothing_yet};
 ghost use Rattle.connection_turns.specs.Sending.{IsAfterSending};
 ghost use Rattle.connection_turns.specs.Turn.{HasHistoryWithin, Passes, SendsOnWithin, and_then, around};
@@ -12,7 +12,7 @@ use crate::pace::Busy;
 use crate::sending::{Sent, send_pending};
 use crate::turn::{Precedence, Share, Streams, TurnOutcome, Turned, take_turn};
 use crate::unread::{ROOM_KEPT, may_be_unread};
-use http_wire::{BodyLimits, Buffers, Clock, Connection, Ended, Message};
+use http_wire::{Buffers, Clock, Connection, Ended, Message, RequestLimits};
 use std::alloc::{AllocError, Global};
 use std::io::{Read, Write};
 
@@ -30,7 +30,7 @@ const FIRST_ROOM: usize = 65_536;
 pub struct ClientConnection {
     connection: Option<Connection>,
     left: usize,
-    limits: BodyLimits,
+    limits: RequestLimits,
     piece: Option<usize>,
     ghost small: { AreSmall limits } by { Prim.hlevel props },
     ghost some: { IfSome piece (λ n. 0 < n) } by { Prim.hlevel props },
@@ -40,7 +40,7 @@ impl ClientConnection {
     /// A client of which nothing was read. Its bodies have at most as many bytes as `limits` tell, each below 2^62. It has at most
     /// `left` messages. Where there is a `piece`, above 0, longer bodies of PATCH and POST without a checksum are taken in pieces
     /// of so many bytes, as [`Connection::by_pieces`] says.
-    pub fn new(limits: BodyLimits, piece: Option<usize>, left: usize) -> Self
+    pub fn new(limits: RequestLimits, piece: Option<usize>, left: usize) -> Self
         requires limits { AreSmall limits }
         requires some { IfSome piece (λ n. 0 < n) }
         ensures begins { HasHistoryWithin limits piece nothing_yet result.connection }
@@ -212,7 +212,7 @@ fn open(
     connection: Option<Connection>,
     alloc: Global,
     free: &mut Vec<Buffers>,
-    limits: BodyLimits,
+    limits: RequestLimits,
     piece: Option<usize>,
 ) -> Result<Connection, AllocError>
     requires limits { AreSmall limits }

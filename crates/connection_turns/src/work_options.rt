@@ -22,6 +22,8 @@ pub struct WorkOptions {
     /// Whether clients are served by the readiness of their streams even where each worker holds one at a time, as replies have
     /// to be that are held back, and as a log and numbers want it.
     pub by_readiness: bool,
+    /// Whether a GET may ask for a range of an upload's bytes.
+    pub ranges: bool,
     /// For how many seconds messages that are under way may still end once a stop was asked for; none where nobody can ask for
     /// one.
     pub grace: Option<u64>,
