@@ -201,7 +201,14 @@ impl<D: Disk> KeptBook<D> {
                 Ok(())
             }
             asked => {
-                answer_asked(&self.book, request, asked, now, self.book.no_room(), reply);
+                answer_asked(
+                    &self.book,
+                    request,
+                    asked,
+                    now,
+                    self.book.none_begun(),
+                    reply,
+                );
                 Ok(())
             }
         }
@@ -259,7 +266,14 @@ impl<D: Disk> KeptBook<D> {
                 reply.put_change(request, offset, Err(refused));
             }
             asked => {
-                answer_asked(&self.book, request, asked, now, self.book.no_room(), reply);
+                answer_asked(
+                    &self.book,
+                    request,
+                    asked,
+                    now,
+                    self.book.none_begun(),
+                    reply,
+                );
             }
         }
     }

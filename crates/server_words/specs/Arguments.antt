@@ -149,6 +149,7 @@ work_with rows moment connections at_once body_memory piece by_readiness = recor
   piece = piece;
   max_body = number_given (codes "max-body") rows;
   by_readiness = by_readiness;
+  ranges = false;
   grace = grace_given rows;
 }
 
@@ -171,12 +172,12 @@ abbrev pub run_body_memory : List Row → ℕ → ℕ
 run_body_memory rows most = unwrap_or (number_given (codes "body-memory") rows) (min most (pool_limit Wide) + 2 ^ 28)
 
 -- what each worker of `run` is asked for, where an upload comes to at most so many bytes, and where that can be: connections come
--- without end and are served by readiness, bodies are stored in pieces, of 262,144 bytes where their size is not told, and the
+-- without end and are served by readiness, ranges of bytes are served, bodies are stored in pieces, of 262,144 bytes where their size is not told, and the
 -- clock is the machine's
 abbrev pub run_work : List Row → ℕ → Option WorkerOptions
 run_work rows most =
     option_and_then
-    (λ at_once. option_map (λ piece. work_with rows None (2 ^ 64 - 1) at_once (run_body_memory rows most) piece true) (piece_set (Some (unwrap_or (number_given (codes "pieces") rows) 262144))))
+    (λ at_once. option_map (λ piece. record (work_with rows None (2 ^ 64 - 1) at_once (run_body_memory rows most) piece true) { ranges = true }) (piece_set (Some (unwrap_or (number_given (codes "pieces") rows) 262144))))
     (at_once_given true rows)
 
 -- the port that is listened at, where the number is one

@@ -272,7 +272,10 @@ fn run_work(found: &ArgMatches, most: u64) -> Option<WorkerOptions>
     let piece = piece_of(Some(number_given(found, "pieces").unwrap_or(262_144)))?;
     let least = most.min(Bounds::Wide.pool_limit()) + BODY_MEMORY;
     let body_memory = number_given(found, "body-memory").unwrap_or(least);
-    Some(work_with(found, None, u64::MAX, at_once, body_memory, piece, true))
+    Some(WorkerOptions {
+        ranges: true,
+        ..work_with(found, None, u64::MAX, at_once, body_memory, piece, true)
+    })
 }
 
 /// What each worker is asked for, with these of its parts; the options give the others.
@@ -299,6 +302,7 @@ fn work_with(
         piece,
         max_body: number_given(found, "max-body"),
         by_readiness,
+        ranges: false,
         grace: grace_of(found),
     }
 }

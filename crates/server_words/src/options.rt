@@ -76,6 +76,8 @@ pub struct WorkerOptions {
     pub max_body: Option<u64>,
     /// Whether clients are served by the readiness of their streams even where each worker holds one at a time.
     pub by_readiness: bool,
+    /// Whether a GET may ask for a range of an upload's bytes.
+    pub ranges: bool,
     /// For how many seconds messages that are under way may still end once a stop was asked for; none where nobody can ask for
     /// one.
     pub grace: Option<u64>,

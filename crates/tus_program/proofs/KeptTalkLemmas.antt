@@ -4,14 +4,14 @@ use Rattle.std.specs.Io.KnownBytes.{Appends, Consumes, Keeps}
 use Rattle.std.specs.Prelude.{IfSome}
 use Rattle.std.proofs.lemmas.List.{append-nil}
 use Rattle.sqlite_disk.specs.declared.Disk.{Ghosts}
-use Rattle.http_wire.specs.BodyLimits.{alike}
+use Rattle.http_wire.specs.RequestLimits.{alike}
 use Rattle.http_wire.specs.Conversation.{Conversation}
 use Rattle.http_wire.specs.Exchange.{Exchange}
 use Rattle.http_wire.specs.Fault.{NamesOrMemory}
 use Rattle.http_wire.specs.OnConnection.{wanted}
 use Rattle.http_wire.specs.Turns.{Breaks}
 use Rattle.http_wire.specs.declared.connection.Wants.TheVariants.{Answer}
-use Rattle.http_wire.specs.declared.body_limits.BodyLimits.{BodyLimits}
+use Rattle.http_wire.specs.declared.request_limits.RequestLimits.{RequestLimits}
 use Rattle.http_wire.specs.declared.conversation.Ended.{Ended}
 use Rattle.http_wire.specs.declared.fault.WireFault.{WireFault}
 use Rattle.http_wire.specs.declared.fault.WireFault.TheVariants as wire
@@ -239,7 +239,7 @@ module _ {D : Type 0} {g : Ghosts D} where
 
       -- over the book that was opened
       module _ (before after : A) (works : has_failed before ≡ false) (given : talk_settings arguments ≡ Ok s) (is_opened : IsOpened s journal_key found (kept before)) (key : key_in (kept before) ≡ journal_key) where
-        abbrev limits : BodyLimits
+        abbrev limits : RequestLimits
         limits = alike (book_in (kept before)).settings.numbers.max_size
 
         abbrev Broken : WireFault → Type 0

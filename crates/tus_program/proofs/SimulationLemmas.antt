@@ -5,7 +5,7 @@ use Rattle.http_wire.specs.Exchange.{Exchange, last_part}
 use Rattle.http_wire.specs.History.{Answering, Follows}
 use Rattle.http_wire.specs.NextMessage.{NextMessage, message, refused, cut_patch, cut_other, clean_end}
 use Rattle.http_wire.specs.Turns.{Breaks, BreaksOff, FailsIn}
-use Rattle.http_wire.specs.declared.body_limits.BodyLimits.{BodyLimits}
+use Rattle.http_wire.specs.declared.request_limits.RequestLimits.{RequestLimits}
 use Rattle.http_wire.specs.declared.conversation.Ended.{Ended}
 use Rattle.http_wire.specs.declared.fault.WireFault.{WireFault}
 use Rattle.http_wire.specs.declared.fault.WireFault.TheVariants.{Read, Write, Memory, Failed}
@@ -17,7 +17,7 @@ abbrev pub between : {A B : Type 0} → Exchange A → B → B → Exchange B
 between x p q = record { input = x.input; text = x.text; before = p; after = q }
 
 module _ {A B : Type 0} (steps : A → Request → ℕ → Reply → A → Type 0) (others : B → Request → ℕ → Reply → B → Type 0) (Like : A → B → Type 0)
-    (on : (a : A) (p : B) (r : Request) (now : ℕ) (reply : Reply) (b : A) → Like a p → steps a r now reply b → (q : B) × Like b q × others p r now reply q) (limits : BodyLimits) where
+    (on : (a : A) (p : B) (r : Request) (now : ℕ) (reply : Reply) (b : A) → Like a p → steps a r now reply b → (q : B) × Like b q × others p r now reply q) (limits : RequestLimits) where
   stays : (a b : A) (p : B) → b ≡ a → Like a p → Like b p
   stays a b p same like = subst (λ (c : A). Like c p) (sym same) like
 

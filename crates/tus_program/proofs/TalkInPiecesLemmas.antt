@@ -16,7 +16,7 @@ use Rattle.http_wire.specs.ReplyText.{reply_text}
 use Rattle.http_wire.specs.inside.PieceAnswer.{Accepts, AnswersOwed, AnswersPiece, EndsBody}
 use Rattle.http_wire.specs.inside.Sending.{OnOutbox}
 use Rattle.http_wire.specs.inside.TurnFinish.{ended_after}
-use Rattle.http_wire.specs.declared.body_limits.BodyLimits.{BodyLimits}
+use Rattle.http_wire.specs.declared.request_limits.RequestLimits.{RequestLimits}
 use Rattle.http_wire.specs.declared.connection.Wants.{Wants}
 use Rattle.http_wire.specs.declared.connection.Wants.TheVariants as want
 use Rattle.http_wire.specs.declared.connection.Wants.TheVariants.{Answer, Nothing}
@@ -179,7 +179,7 @@ module _ {A B : Type 0} (steps : A → Request → ℕ → Reply → A → Type 
   }
 
 -- the limits as they are made
-pub limits-by : (size most other : ℕ) → size ≡ most → other ≡ min size 16777216 → (limits : BodyLimits) → limits ≡ record { plain = size; other = other } → limits ≡ limits_in_pieces most
+pub limits-by : (size most other : ℕ) → size ≡ most → other ≡ min size 16777216 → (limits : RequestLimits) → limits ≡ record { plain = size; other = other; ranges = false } → limits ≡ limits_in_pieces most
 limits-by size most other is least limits made = made ∙ rw (least, is) refl
 
 -- where no message is left, all were had

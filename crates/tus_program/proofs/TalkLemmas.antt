@@ -3,7 +3,7 @@ use Rattle.std.proofs.Common.{◌≡◌, ◌≢◌, ℕ, Bool, List, [], ◌++�
 use Rattle.std.specs.Prelude.{MatchResult, OnErr, OnOk, IfErr, IfSome, IsErrAnd, IsOk, IsTrue}
 use Rattle.std.specs.Io.KnownBytes.{Appends, Consumes, Keeps}
 use Rattle.std.proofs.lemmas.Result.{err_from_is_err_and}
-use Rattle.http_wire.specs.BodyLimits.{alike}
+use Rattle.http_wire.specs.RequestLimits.{alike}
 use Rattle.http_wire.specs.BookStep.{BookStep}
 use Rattle.http_wire.proofs.CarriedLemmas.{Conversation-carried, Breaks-carried}
 use Rattle.tus_steps.specs.Request.{Request}

@@ -2,7 +2,7 @@
 use Rattle.std.specs.Prelude.{◌≡◌, ◌≢◌, ◌⊎◌, ◌++◌, ℕ, Bool, true, false, List, Option, Some, None, Result, Ok, Err, IsOk, IsTrue}
 use Rattle.std.specs.Io.KnownBytes.{Appends, Consumes}
 use Rattle.book_replay.specs.Replay.{AllHappen, records_of}
-use Rattle.http_wire.specs.BodyLimits.{alike}
+use Rattle.http_wire.specs.RequestLimits.{alike}
 use Rattle.http_wire.specs.Conversation.{Conversation}
 use Rattle.http_wire.specs.OnConnection.{wanted}
 use Rattle.http_wire.specs.Turns.{Breaks}

@@ -1,7 +1,7 @@
 -- What `talk` does: one conversation over two streams, on a new book.
 use Rattle.std.specs.Prelude.{◌≡◌, ◌≢◌, ◌++◌, ℕ, Bool, List, replicate, Option, Some, None, Result, Ok, Err, IsOk, IsTrue, OnErr}
 use Rattle.std.specs.Io.KnownBytes.{Appends, Consumes}
-use Rattle.http_wire.specs.BodyLimits.{alike}
+use Rattle.http_wire.specs.RequestLimits.{alike}
 use Rattle.http_wire.specs.Conversation.{Conversation}
 use Rattle.http_wire.specs.Fault.{NamesStream}
 use Rattle.http_wire.specs.OnConnection.{wanted}

@@ -1,17 +1,17 @@
 -- A conversation of `talk` whose bodies come in pieces.
-use Rattle.std.specs.Prelude.{◌≡◌, ◌≤◌, ◌^◌, ◌⊎◌, ℕ, List, [], All, length, min, Option, Some}
+use Rattle.std.specs.Prelude.{◌≡◌, ◌≤◌, ◌^◌, ◌⊎◌, ℕ, false, List, [], All, length, min, Option, Some}
 use Rattle.std.specs.Io.KnownBytes.{Appends, Consumes}
 use Rattle.http_wire.specs.History.{Follows, HasHistory, History, answer_moments}
 use Rattle.http_wire.specs.OnConnection.{OnConnection, wanted}
-use Rattle.http_wire.specs.declared.body_limits.BodyLimits.{BodyLimits}
+use Rattle.http_wire.specs.declared.request_limits.RequestLimits.{RequestLimits}
 use Rattle.http_wire.specs.declared.connection.Wants.TheVariants.{Nothing}
 use Rattle.tus_steps.specs.Request.{Request}
 use Rattle.tus_steps.specs.declared.reply.Reply.{Reply}
 
 -- The most bytes of bodies, where an upload has at most so many: one that comes in pieces may be as long, and one that is
 -- gathered has at most 16 MiB.
-abbrev pub limits_in_pieces : ℕ → BodyLimits
-limits_in_pieces most = record { plain = most; other = min most (2 ^ 24) }
+abbrev pub limits_in_pieces : ℕ → RequestLimits
+limits_in_pieces most = record { plain = most; other = min most (2 ^ 24); ranges = false }
 
 -- these moments are all this one
 abbrev pub AreAt : ℕ → List ℕ → Type 0

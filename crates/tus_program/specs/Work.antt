@@ -12,5 +12,6 @@ work_of options = record {
   piece = options.piece;
   max_body = options.max_body;
   by_readiness = options.by_readiness;
+  ranges = options.ranges;
   grace = options.grace;
 }

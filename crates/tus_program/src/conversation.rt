@@ -2,7 +2,7 @@
 ghost use Rattle.std.specs.Prelude.{◌≡◌, ◌≢◌, ◌<◌, ◌≤◌, ◌++◌, ◌⊎◌, [], ℕ, List, Err, None, Option, Some, false, true, IfErr, IfSome, OnOk, replicate};
 ghost use Rattle.std.specs.Io.KnownBytes.{Appends, Consumes, Keeps};
 ghost use Rattle.connection_turns.specs.Turn.{CarriesOn, SendsOn, on_turn};
-ghost use Rattle.http_wire.specs.BodyLimits.{alike};
+ghost use Rattle.http_wire.specs.RequestLimits.{alike};
 ghost use Rattle.http_wire.specs.Conversation.{Conversation};
 ghost use Rattle.http_wire.specs.Fault.{NamesOrMemory, NamesStream};
 ghost use Rattle.http_wire.specs.OnConnection.{wanted};
@@ -12,7 +12,7 @@ ghost use Rattle.tus_program.specs.TalkInPieces.{IsOver, TalksInPieces};
 
 use connection_turns::wants_of;
 use http_wire::{
-    Answer, BodyLimits, Buffers, Clock, Connection, Sink, Source, Wants, WireFault, converse,
+    Answer, Buffers, Clock, Connection, RequestLimits, Sink, Source, Wants, WireFault, converse,
 };
 use server_words::TalkOptions;
 use std::alloc::Global;
@@ -114,9 +114,10 @@ fn converse_in_pieces<T: Wait, R: Source, W: Sink, A: Answer>(
     ensures fault { IfErr result (NamesOrMemory (R.has_failed reader.new) (W.has_failed writer.new)) }
 {
     let max_size = answerer.max_size();
-    let limits = BodyLimits {
+    let limits = RequestLimits {
         plain: max_size,
         other: max_size.min(GATHERED_MAX),
+        ranges: false,
     };
     let buffers = Buffers::new(alloc)?;
     let mut connection = Connection::by_pieces(buffers, limits, Some(piece));

@@ -22,6 +22,7 @@ pub fn work_of(options: &WorkerOptions) -> WorkOptions
         piece: options.piece,
         max_body: options.max_body,
         by_readiness: options.by_readiness,
+        ranges: options.ranges,
         grace: options.grace,
     }
 }

@@ -1,6 +1,6 @@
 //! A worker that serves many clients at once, over its one desk.
 ghost use Rattle.std.specs.Prelude.{◌≡◌, ◌+◌, ◌≤◌, ◌<◌, ◌^◌, ℕ, None, Some, IfSome, min, true, false, unwrap_or};
-ghost use Rattle.http_wire.specs.BodyLimits.{AreSmall};
+ghost use Rattle.http_wire.specs.RequestLimits.{AreSmall};
 
 use crate::accept::Accept;
 use crate::at_desk::AtDesk;
@@ -20,7 +20,7 @@ use access_log::Watch;
 use admin_port::{ASKERS_MAX, MetricsDoor};
 use connection_turns::{ClientConnection, Durability, WorkOptions};
 use core::mem::replace_with;
-use http_wire::{BodyLimits, Clock};
+use http_wire::{Clock, RequestLimits};
 use mio::Events;
 use std::alloc::AllocError;
 use std::io::Eprint;
@@ -514,14 +514,15 @@ fn piece_of(options: &WorkOptions) -> Option<usize>
     options.piece.filter(|size| *size > 0)
 }
 
-// The most bytes of bodies, where an upload has at most `max_size`. A body with a checksum has at most as many as the option
+// What a request may have, where an upload has at most `max_size`: ranges where the options say so. A body with a checksum has at most as many as the option
 // tells, and 16 MiB. One without is as long as an upload may be where there are pieces, and else as one with.
-fn limits_of(options: &WorkOptions, piece: Option<usize>, max_size: u64) -> BodyLimits
+fn limits_of(options: &WorkOptions, piece: Option<usize>, max_size: u64) -> RequestLimits
     requires size { max_size ≤ 2 ^ 40 }
     ensures small { AreSmall result }
     ensures gathered { result.other ≡ min (min (unwrap_or options.now.max_body max_size) max_size) (2 ^ 24) }
     ensures whole { piece ≡ None → result.plain ≡ result.other }
     ensures pieces { IfSome piece (λ size. result.plain ≡ max_size) }
+    ensures ranges { result.ranges ≡ options.now.ranges }
 {
     let other = options
         .max_body
@@ -532,7 +533,11 @@ fn limits_of(options: &WorkOptions, piece: Option<usize>, max_size: u64) -> Body
         Some(_) => max_size,
         None => other,
     };
-    BodyLimits { plain, other }
+    RequestLimits {
+        plain,
+        other,
+        ranges: options.ranges,
+    }
 }
 
 // How many seconds have begun since then: 1 at first, and always where the machine's clock can't be read.

@@ -133,10 +133,11 @@ impl ServerState {
     }
 }
 
-/// Whether a worker waits for each of its clients in turn: it may, it holds one at a time, bodies are gathered, and no bound
+/// Whether a worker waits for each of its clients in turn: it may, it holds one at a time, no ranges are served, bodies are gathered, and no bound
 /// needs a look at the clock while it waits. Sixteen such workers can't hold more than 268,435,456 bytes of bodies.
 pub(crate) fn waits_for_each(options: &WorkOptions) -> bool {
     !options.by_readiness
+        && !options.ranges
         && options.piece.is_none()
         && options.max_body.is_none()
         && options.at_once <= 1

@@ -1,7 +1,7 @@
 //! A connection's conversation at a desk.
 ghost use Rattle.std.specs.Prelude.{◌≡◌, ◌<◌, ◌∷◌, ◌++◌, [], ℕ, List, length, false, None, IfErr, IfOk, IsErr};
 ghost use Rattle.std.specs.Io.KnownBytes.{Appends, Consumes};
-ghost use Rattle.http_wire.specs.BodyLimits.{alike};
+ghost use Rattle.http_wire.specs.RequestLimits.{alike};
 ghost use Rattle.http_wire.specs.Clock.{AreTold, IsTimed, Tells};
 ghost use Rattle.http_wire.specs.Fault.{NamesStream};
 ghost use Rattle.http_wire.specs.Turns.{Breaks, Converses, IsReadWhen};

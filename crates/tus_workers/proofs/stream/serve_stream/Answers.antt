@@ -1,7 +1,7 @@
 use Rattle.std.proofs.Common.{ℕ, ◌∷◌, ◌++◌, [], sym, subst, subst₂}
 use Rattle.std.proofs.lemmas.Result.{IfErr-weaker, IfOk-weaker}
 use Rattle.std.specs.Io.KnownBytes.{Appends, Consumes}
-use Rattle.http_wire.specs.BodyLimits.{alike}
+use Rattle.http_wire.specs.RequestLimits.{alike}
 use Rattle.http_wire.specs.Turns.{Breaks, Converses}
 use Rattle.http_wire.proofs.CarriedLemmas.{Breaks-carried, Converses-carried}
 use Rattle.http_wire.proofs.ConversationLemmas.{timed_weaker}
