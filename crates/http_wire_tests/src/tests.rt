@@ -15,6 +15,7 @@ mod memory;
 mod message_parts;
 mod methods;
 mod plain;
+mod ranges;
 mod replies;
 mod rows;
 mod spoken;

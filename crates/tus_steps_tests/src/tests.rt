@@ -3,6 +3,7 @@
 mod asked;
 mod books;
 mod heads;
+mod ranges;
 mod requests;
 mod rows;
 mod runs;

@@ -14,7 +14,7 @@ use crate::tests::rows::{Row, rows};
 use crate::tests::spoken::{
     Expected, Spoken, assert_offset, assert_spoken, at_1000, joined, new_book,
 };
-use http_wire::{BodyLimits, Buffers, Connection, Ended, Wants};
+use http_wire::{Buffers, Connection, Ended, RequestLimits, Wants};
 use std::alloc::Global;
 use std::process::Abort;
 use worked_example::{CREATED, PATCH, PATCHED, POST};
@@ -52,9 +52,10 @@ static ROWS: [Row; 15] = rows! {
 };
 
 /// How long a body may be that is gathered: shorter than some that come in pieces.
-const LIMITS: BodyLimits = BodyLimits {
+const LIMITS: RequestLimits = RequestLimits {
     plain: 64,
     other: 5,
+    ranges: false,
 };
 
 /// A connection that takes bodies in pieces of so many bytes, one at least.

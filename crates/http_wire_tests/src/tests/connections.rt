@@ -12,7 +12,7 @@ use crate::tests::spoken::{
     Expected, Spoken, assert_spoken, at, at_1000, book_with, charge_of, joined, new_book,
     offset_of, repeated,
 };
-use http_wire::{BodyLimits, Buffers, Connection, Ended, Tapped, Wants, WireFault};
+use http_wire::{Buffers, Connection, Ended, RequestLimits, Tapped, Wants, WireFault};
 use std::alloc::Global;
 use std::process::Abort;
 use upload_book::{Book, Moment};
@@ -255,7 +255,7 @@ fn speak_by_chance(
 ) -> (Spoken<'static>, Buffers) {
     let (reads, writes) = (dice.roll(60), dice.roll(60));
     let piece = piece.filter(|size| *size > 0);
-    let mut connection = Connection::by_pieces(buffers, BodyLimits::alike(64), piece);
+    let mut connection = Connection::by_pieces(buffers, RequestLimits::alike(64), piece);
     let reader = Arriving::new(text, Pieces::Chance(dice, reads));
     let writer = Leaving::new(alloc, Pieces::Chance(dice, writes));
     let spoken = spoken_over(rt, &mut connection, reader, writer, book, &moments());

@@ -6,7 +6,7 @@ use http_wire::{Ended, Framing, WireRefusal};
 use httparse::{EMPTY_HEADER, Header, Request as Head, Status};
 use std::alloc::Global;
 use std::process::Abort;
-use tus_steps::{Field, Method, Reply, Request, TusFields, answer};
+use tus_steps::{Field, Method, RangeAsked, Reply, Request, TusFields, answer};
 use tus_text::{read_number, read_path};
 use upload_book::{Book, Moment};
 
@@ -273,6 +273,7 @@ fn with_head<'a>(head: &Head<'_, 'a>, rest: &'a [u8], max_size: u64) -> NextMess
                 path: read_path(head.path.unwrap_or("").as_bytes()),
                 fields: tus_fields(headers),
                 body,
+                range: RangeAsked::Unserved,
                 given: 0,
                 more: 0,
             };

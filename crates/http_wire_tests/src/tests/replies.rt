@@ -4,7 +4,7 @@ use crate::tests::spoken::put;
 use http_wire::{Framing, WireRefusal};
 use std::alloc::Global;
 use std::process::Abort;
-use tus_steps::{PathKind, Reply};
+use tus_steps::{Extent, PathKind, Reply};
 use tus_text::write_expires;
 use upload_book::{HeadRow, Moment, Refusal};
 
@@ -64,10 +64,17 @@ impl Replied {
                 replied
             }
             Reply::Head(row) => Replied::of_head(rt, alloc, row),
-            Reply::Content(content) => {
-                let mut replied = Replied::new(alloc, 200);
+            Reply::Content { bytes, extent } => {
+                let mut replied = Replied::of_bytes(rt, alloc, *extent);
                 replied.media = "application/octet-stream";
-                replied.body = Vec::from_slice(alloc, content.as_slice()).expect(rt, "memory");
+                replied.body = Vec::from_slice(alloc, bytes.as_slice()).expect(rt, "memory");
+                replied
+            }
+            Reply::Unsatisfiable { len } => {
+                let mut replied = Replied::new(alloc, 416);
+                let none = format!(in alloc; "bytes */{len}").expect(rt, "memory");
+                replied.line(rt, alloc, "Content-Range", none.as_bytes());
+                replied.tell_word(rt, "range");
                 replied
             }
             Reply::Patched { offset, expires } => {
@@ -132,6 +139,22 @@ concatenation,checksum,creation-with-upload";
         replied
     }
 
+    // What the reply to a GET tells first, which gives these bytes.
+    fn of_bytes(rt: &impl Abort, alloc: Global, extent: Extent) -> Replied {
+        let Extent::Range { first, last, len } = extent else {
+            let mut replied = Replied::new(alloc, 200);
+            if extent == Extent::Whole {
+                replied.line(rt, alloc, "Accept-Ranges", b"bytes");
+            }
+            return replied;
+        };
+        let mut replied = Replied::new(alloc, 206);
+        replied.line(rt, alloc, "Accept-Ranges", b"bytes");
+        let range = format!(in alloc; "bytes {first}-{last}/{len}").expect(rt, "memory");
+        replied.line(rt, alloc, "Content-Range", range.as_bytes());
+        replied
+    }
+
     fn refusing(rt: &impl Abort, alloc: Global, refusal: Refusal, place: PathKind) -> Replied {
         let mut replied = Replied::new(alloc, refusal.status());
         if refusal == Refusal::Version {
@@ -164,6 +187,7 @@ fn reason(status: u16) -> &'static str {
         200 => "OK",
         201 => "Created",
         204 => "No Content",
+        206 => "Partial Content",
         400 => "Bad Request",
         403 => "Forbidden",
         404 => "Not Found",
@@ -174,6 +198,7 @@ fn reason(status: u16) -> &'static str {
         412 => "Precondition Failed",
         413 => "Content Too Large",
         415 => "Unsupported Media Type",
+        416 => "Range Not Satisfiable",
         431 => "Request Header Fields Too Large",
         460 => "Checksum Mismatch",
         503 => "Service Unavailable",

@@ -2,7 +2,7 @@
 
 use std::process::Abort;
 use tus_shared::Turn;
-use tus_steps::{Field, Method, Reply, Request, TusFields};
+use tus_steps::{Field, Method, RangeAsked, Reply, Request, TusFields};
 use tus_text::read_path;
 use upload_book::{HeadRow, Moment, Refusal};
 use worked_example::FIELDS;
@@ -63,6 +63,7 @@ fn creation(length: Field<'static>, concat: Field<'static>) -> Request<'static> 
             ..FIELDS
         },
         body: b"",
+        range: RangeAsked::Unserved,
         given: 0,
         more: 0,
     }
@@ -78,6 +79,7 @@ fn upload(length: &'static [u8], body: &'static [u8]) -> Request<'static> {
             ..FIELDS
         },
         body,
+        range: RangeAsked::Unserved,
         given: 0,
         more: 0,
     }
@@ -99,6 +101,7 @@ fn patch(
             ..FIELDS
         },
         body,
+        range: RangeAsked::Unserved,
         given: 0,
         more: 0,
     }
@@ -110,6 +113,7 @@ fn bare(method: Method, target: &[u8]) -> Request<'static> {
         path: read_path(target),
         fields: FIELDS,
         body: b"",
+        range: RangeAsked::Unserved,
         given: 0,
         more: 0,
     }
@@ -133,6 +137,8 @@ pub enum Answer<'a> {
     /// An offset, a length, `Upload-Concat`, and when the upload expires.
     Row(u64, Option<u64>, &'a [u8], Option<u64>),
     Bytes(&'a [u8]),
+    /// A range has none of so many bytes.
+    NoneOf(u64),
     Deleted,
     /// How many uploads ended, how many blocks became free, and how many are no longer paid.
     Swept(u64, u64, u64),
@@ -174,7 +180,8 @@ pub fn answer_by(reply: &Reply) -> Answer<'_> {
             ..
         } => Answer::Created(*id, *offset, secs(*expires)),
         Reply::Head(found) => row(found),
-        Reply::Content(content) => Answer::Bytes(content.as_slice()),
+        Reply::Content { bytes, .. } => Answer::Bytes(bytes.as_slice()),
+        Reply::Unsatisfiable { len } => Answer::NoneOf(*len),
         Reply::Patched { offset, expires } => Answer::Patched(*offset, secs(*expires)),
         Reply::Deleted => Answer::Deleted,
         Reply::Refused {

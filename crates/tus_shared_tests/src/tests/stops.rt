@@ -11,7 +11,7 @@ use std::test::Fail;
 use std::thread;
 use tus_shared::{Gate, Stop};
 use tus_steps::Reply;
-use upload_book::{Book, Name};
+use upload_book::{Book, ByteSpan, Name};
 use worked_example::settings;
 
 // The digit of a stop: 1 before the lock, 2 with it, 3 with the reply.
@@ -113,7 +113,9 @@ pub fn assert_fills(rt: &impl Abort, replies: &[Vec<Reply>]) {
 
 /// The book has all bytes of an upload of acme.
 pub fn assert_full(rt: &impl Abort, book: &Book, id: u64) {
-    let content = book.content(&Name { tenant: 0, id }, moment(rt, 1000), book.no_room());
+    let name = Name { tenant: 0, id };
+    let all = ByteSpan::front(u64::MAX);
+    let content = book.content(&name, moment(rt, 1000), all, book.none_begun());
     let content = content.expect(rt, "a content");
     assert!(rt;
         content.as_slice() == b"helloworld".as_slice(),

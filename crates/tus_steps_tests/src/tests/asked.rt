@@ -107,7 +107,7 @@ fn reply_to(book: &Book, request: &Request, now: Moment) -> Option<Reply> {
         Asked::Change(_) => None,
         asked => {
             let mut reply = PlacedReply::new();
-            answer_asked(book, request, asked, now, book.no_room(), &mut reply);
+            answer_asked(book, request, asked, now, book.none_begun(), &mut reply);
             Some(reply.into_reply())
         }
     }

@@ -1,5 +1,5 @@
 //! The requests of the worked rows.
-use tus_steps::{Field, Method, Request, TusFields};
+use tus_steps::{Field, Method, RangeAsked, Request, TusFields};
 use tus_text::read_path;
 
 /// A request as a row has it, with its target as a text.
@@ -18,6 +18,7 @@ impl<'a> Sent<'a> {
             path: read_path(self.target),
             fields: self.fields,
             body: self.body,
+            range: RangeAsked::Unserved,
             given: 0,
             more: 0,
         }

@@ -7,7 +7,7 @@ use crate::tests::told::{Told, told_by};
 use std::alloc::Global;
 use std::process::Abort;
 use std::test::Fail;
-use tus_steps::{Field, Method, Reply, Request, RunFault, TusFields, run};
+use tus_steps::{Field, Method, RangeAsked, Reply, Request, RunFault, TusFields, run};
 use tus_text::{Path, read_path};
 use upload_book::{Book, Moment, Numbers, Refusal, Settings};
 use worked_example::FIELDS;
@@ -118,6 +118,7 @@ fn creation_for(
         path: read_path(creations(tenant)),
         fields,
         body,
+        range: RangeAsked::Unserved,
         given: 0,
         more: 0,
     }
@@ -179,6 +180,7 @@ fn request_at(kind: u64, path: Path) -> Request<'static> {
         path,
         fields,
         body,
+        range: RangeAsked::Unserved,
         given: 0,
         more: 0,
     }

@@ -1,5 +1,5 @@
 //! What a reply tells, in a form that rows can have.
-use tus_steps::Reply;
+use tus_steps::{Extent, Reply};
 use upload_book::{Moment, Refusal};
 
 /// What a reply tells, as numbers and bytes.
@@ -12,6 +12,10 @@ pub(crate) enum Told<'a> {
     /// An offset, a length, the metadata and the concat text.
     Row(u64, Option<u64>, &'a [u8], &'a [u8]),
     Bytes(&'a [u8]),
+    /// Bytes, the place of the first and of the last, and how many there are.
+    Range(&'a [u8], u64, u64, u64),
+    /// A range has none of so many bytes.
+    NoneOf(u64),
     /// An offset, and when the upload expires.
     Patched(u64, Option<u64>),
     Deleted,
@@ -34,7 +38,8 @@ pub(crate) fn told_by(reply: &Reply) -> Told<'_> {
             let (metadata, concat) = (row.metadata.as_slice(), row.concat.as_slice());
             Told::Row(row.offset, row.declared, metadata, concat)
         }
-        Reply::Content(content) => Told::Bytes(content.as_slice()),
+        Reply::Content { bytes, extent } => told_bytes(bytes.as_slice(), *extent),
+        Reply::Unsatisfiable { len } => Told::NoneOf(*len),
         Reply::Patched { offset, expires } => Told::Patched(*offset, secs(expires)),
         Reply::Deleted => Told::Deleted,
         Reply::Refused {
@@ -49,6 +54,14 @@ pub(crate) fn told_by(reply: &Reply) -> Told<'_> {
                 Told::Refused(*refusal, secs(expires))
             }
         }
+    }
+}
+
+// What a reply to a GET tells that gives these bytes.
+fn told_bytes(bytes: &[u8], extent: Extent) -> Told<'_> {
+    match extent {
+        Extent::Plain | Extent::Whole => Told::Bytes(bytes),
+        Extent::Range { first, last, len } => Told::Range(bytes, first, last, len),
     }
 }
 

@@ -5,7 +5,7 @@ use crate::tests::texts::CUT_PATCH;
 use connection_turns::{
     AsTheyCome, Busy, ClientConnection, Precedence, Streams, TurnOutcome, Turned, Unwatched,
 };
-use http_wire::{BodyLimits, Buffers};
+use http_wire::{Buffers, RequestLimits};
 use std::alloc::Global;
 use std::cell::Cell;
 use std::io;
@@ -94,7 +94,7 @@ impl<'a> Client<'a> {
             has_blocked: false,
         };
         Client {
-            client_connection: ClientConnection::new(BodyLimits::alike(64), None, left),
+            client_connection: ClientConnection::new(RequestLimits::alike(64), None, left),
             free: Vec::new(alloc),
             streams: Streams { reader, writer },
             rounds: 0,

@@ -10,7 +10,7 @@ use std::net::{Net, Shutdown, TcpStream};
 use std::process::Abort;
 use std::test::Fail;
 use std::time::Duration;
-use upload_book::{Book, Name};
+use upload_book::{Book, ByteSpan, Name};
 
 /// A client at this port that has sent these messages, and says that nothing follows.
 pub fn client<N: Net<Stream = TcpStream>>(
@@ -40,7 +40,12 @@ pub fn assert_replies(rt: &impl Abort, alloc: Global, stream: &TcpStream, replie
 pub fn assert_content(rt: &impl Abort, book: &Book) {
     let name = Name { tenant: 1, id: 1 };
     let content = book
-        .content(&name, moment(rt), book.no_room())
+        .content(
+            &name,
+            moment(rt),
+            ByteSpan::front(u64::MAX),
+            book.none_begun(),
+        )
         .expect(rt, "a content");
     assert!(rt; content.as_slice() == b"abcd".as_slice());
 }

@@ -8,7 +8,7 @@ use crate::tests::opening::moment;
 use connection_turns::{
     AsTheyCome, ClientConnection, Durability, Streams, TurnOutcome, Turned, Unwatched,
 };
-use http_wire::{Answer, BodyLimits};
+use http_wire::{Answer, RequestLimits};
 use std::test::Fail;
 use tus_steps::{PlacedReply, Request, answer_in_place};
 use upload_book::{Book, Moment};
@@ -53,7 +53,7 @@ fn replies_are_sent_when_they_may_be(rt: HostRuntime) -> Result<(), Fail> {
     };
     let mut clock = moment(&rt);
     let mut free = Vec::new(alloc);
-    let mut client_connection = ClientConnection::new(BodyLimits::alike(64), None, 4096);
+    let mut client_connection = ClientConnection::new(RequestLimits::alike(64), None, 4096);
     let mut streams = Streams {
         reader: Arriving {
             rest: &sent,

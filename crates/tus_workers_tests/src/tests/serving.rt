@@ -167,6 +167,7 @@ fn work_for(rt: &impl Abort, connections: u64, at_once: usize) -> WorkOptions {
         piece: None,
         max_body: None,
         by_readiness: false,
+        ranges: false,
         grace: None,
     }
 }

@@ -12,8 +12,8 @@ use std::alloc::Global;
 use std::process::Abort;
 use tus_text::{Concat, read_concat};
 use upload_book::{
-    Accounts, BoardLine, Book, Change, HeadChange, HeadRow, Kind, Moment, Numbers, Outcome,
-    Refusal, Restored, RestoredSegment, RestoredUpload,
+    Accounts, BoardLine, Book, ByteSpan, Change, HeadChange, HeadRow, Kind, Moment, Numbers,
+    Outcome, Refusal, Restored, RestoredSegment, RestoredUpload,
 };
 use worked_example::NUMBERS;
 
@@ -401,8 +401,11 @@ fn count(rt: &impl Abort, book: &Book) -> u64 {
 fn assert_same(rt: &impl Abort, book: &Book, was: &Book, id: u64) {
     let name = acme(id);
     let now = moment(rt, 1000);
-    let bytes = book.content(&name, now, book.no_room()).expect(rt, "bytes");
-    let before = was.content(&name, now, was.no_room()).expect(rt, "bytes");
+    let all = ByteSpan::front(u64::MAX);
+    let bytes = book.content(&name, now, all, book.none_begun());
+    let bytes = bytes.expect(rt, "bytes");
+    let before = was.content(&name, now, all, was.none_begun());
+    let before = before.expect(rt, "bytes");
     assert!(rt; bytes.as_slice() == before.as_slice());
     assert!(rt; book.holders(&name, 0, 0) == was.holders(&name, 0, 0));
     assert!(rt; book.holders(&name, 1, 0) == was.holders(&name, 1, 0));

@@ -7,8 +7,8 @@ use std::alloc::Global;
 use std::process::Abort;
 use tus_text::Checksum;
 use upload_book::{
-    Appended, Book, Chunk, Content, Created, FirstChunk, HeadRow, Kind, Moment, Name, Numbers,
-    Payload, Refusal, Refused, Removed, Swept,
+    Appended, Book, ByteSpan, Chunk, Content, Created, FirstChunk, HeadRow, Kind, Moment, Name,
+    Numbers, Payload, Refusal, Refused, Removed, Swept,
 };
 
 /// A call of a book.
@@ -253,7 +253,8 @@ impl Pair {
 
     // Asserts what a GET gives.
     fn assert_content(&self, rt: &impl Abort, place: usize, name: Name, now: Moment, told: Told) {
-        let answer = self.book.content(&name, now, self.book.no_room());
+        let all = ByteSpan::front(u64::MAX);
+        let answer = self.book.content(&name, now, all, self.book.none_begun());
         let plainly = self.plain.content(rt, &name, now);
         let wrong = wrong_in([bytes(&answer), plain_bytes(&plainly)], told);
         assert_right(rt, place, wrong);

@@ -6,7 +6,8 @@ use crate::tests::books::{ACME, BETA, acme, create, end, moment, new_book, new_f
 use std::process::Abort;
 use tus_text::check_metadata;
 use upload_book::{
-    Book, Chunk, Created, Kind, Moment, Name, NewFinal, NewUpload, Payload, Refusal, Refused,
+    Begun, Book, ByteSpan, Chunk, Created, Kind, Moment, Name, NewFinal, NewUpload, Payload,
+    Refusal, Refused,
 };
 use worked_example::NUMBERS;
 
@@ -69,7 +70,9 @@ fn a_final_upload_keeps_its_texts(rt: HostRuntime) {
 fn assert_unknown(rt: &impl Abort, book: &mut Book, name: &Name) {
     let now = moment(rt, 1000);
     assert!(rt; book.look(name, now).err() == Some(Refusal::Unknown));
-    assert!(rt; book.content(name, now, book.no_room()).err() == Some(Refusal::Unknown));
+    let content = book.content(name, now, ByteSpan::front(1), book.none_begun());
+    assert!(rt; content.err() == Some(Refusal::Unknown));
+    assert!(rt; book.content_len(name, now).err() == Some(Refusal::Unknown));
     assert!(rt; book.terminate(name, now).err() == Some(Refusal::Unknown));
 }
 
@@ -99,20 +102,47 @@ fn a_tenant_that_is_not_there(rt: HostRuntime) {
     assert_no_append(&rt, &mut book, &name);
 }
 
-// A GET of the upload hands over these bytes, of which the vector has the first.
-fn assert_handed_over(rt: &impl Abort, book: &Book, name: &Name, begun: Vec<u8>, bytes: &[u8])
-    requires { IsBegun (plain_of book.now) name.now begun.items }
+// A GET of some of the upload's bytes hands over these, of which the first may have been copied before.
+fn assert_handed_over(
+    rt: &impl Abort,
+    book: &Book,
+    name: &Name,
+    span: ByteSpan,
+    begun: Begun,
+    bytes: &[u8],
+)
+    requires { IsBegun (plain_of book.now) name.now begun.first begun.bytes.items }
 {
-    let content = book.content(name, moment(rt, 1000), begun);
+    let content = book.content(name, moment(rt, 1000), span, begun);
     let content = content.expect(rt, "a content").into_vec();
     assert!(rt; content.as_slice() == bytes);
 }
+
+// Places and numbers of bytes, and which of `abcde` these are.
+static SPANS: &[(u64, u64, &[u8])] = &[
+    (0, 5, b"abcde"),
+    (0, u64::MAX, b"abcde"),
+    (1, 2, b"bc"),
+    (3, 2, b"de"),
+    (4, 9, b"e"),
+    (5, 1, b""),
+    (u64::MAX, u64::MAX, b""),
+    (2, 0, b""),
+];
 
 #[test]
 fn a_content_is_handed_over(rt: HostRuntime) {
     let mut book = new_book(&rt, rt.alloc(), NUMBERS);
     part(&rt, &mut book, b"abcde");
-    assert_handed_over(&rt, &book, &acme(1), book.no_room(), b"abcde");
+    let name = acme(1);
+    for (first, count, bytes) in SPANS {
+        let span = ByteSpan {
+            first: *first,
+            count: *count,
+        };
+        assert_handed_over(&rt, &book, &name, span, book.none_begun(), bytes);
+    }
+    assert!(rt; book.content_len(&name, moment(&rt, 1000)) == Ok(5));
 }
 
 #[test]
@@ -120,12 +150,39 @@ fn a_content_is_copied_piece_by_piece(rt: HostRuntime) {
     let mut book = new_book(&rt, rt.alloc(), NUMBERS);
     part(&rt, &mut book, b"abcde");
     let name = acme(1);
-    let mut begun = Vec::with_capacity(rt.alloc(), 4).expect(&rt, "memory");
-    book.read_ahead(&name, moment(&rt, 1000), &mut begun, 3);
-    assert!(rt; begun.as_slice() == b"abc".as_slice());
-    book.read_ahead(&name, moment(&rt, 1000), &mut begun, 3);
-    assert!(rt; begun.as_slice() == b"abcd".as_slice());
-    assert_handed_over(&rt, &book, &name, begun, b"abcde");
+    let begun = begun_at(&rt, &book, &name, 0, b"abcd");
+    assert_handed_over(&rt, &book, &name, ByteSpan::front(5), begun, b"abcde");
+    let begun = begun_at(&rt, &book, &name, 1, b"bcde");
+    let span = ByteSpan { first: 1, count: 4 };
+    assert_handed_over(&rt, &book, &name, span, begun, b"bcde");
+}
+
+// What was begun elsewhere, or is more than is asked for, is copied anew.
+#[test]
+fn a_content_begins_elsewhere(rt: HostRuntime) {
+    let mut book = new_book(&rt, rt.alloc(), NUMBERS);
+    part(&rt, &mut book, b"abcde");
+    let name = acme(1);
+    let begun = begun_at(&rt, &book, &name, 1, b"bcde");
+    assert_handed_over(&rt, &book, &name, ByteSpan::front(5), begun, b"abcde");
+    let begun = begun_at(&rt, &book, &name, 1, b"bcde");
+    let span = ByteSpan { first: 1, count: 2 };
+    assert_handed_over(&rt, &book, &name, span, begun, b"bc");
+}
+
+// Bytes of the upload from a place on, copied in two pieces of at most three: these, four at most.
+fn begun_at(rt: &impl Abort, book: &Book, name: &Name, first: u64, bytes: &[u8]) -> Begun
+    ensures { IsBegun (plain_of book.now) name.now result.first result.bytes.items }
+{
+    let mut begun = Begun {
+        first,
+        bytes: Vec::with_capacity(rt.alloc(), 4).expect(rt, "memory"),
+    };
+    book.read_ahead(name, moment(rt, 1000), &mut begun, 3);
+    assert!(rt; begun.bytes.as_slice() == &bytes[..3]);
+    book.read_ahead(name, moment(rt, 1000), &mut begun, 3);
+    assert!(rt; begun.bytes.as_slice() == bytes);
+    begun
 }
 
 // Acme's first upload, which has five of its nine bytes.

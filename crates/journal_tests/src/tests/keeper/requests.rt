@@ -2,7 +2,7 @@
 use crate::tests::acme::{FIELDS, NUMBERS};
 use std::process::Abort;
 use tus_shared::Turn;
-use tus_steps::{Field, Method, Request, TusFields};
+use tus_steps::{Field, Method, RangeAsked, Request, TusFields};
 use tus_text::read_path;
 use upload_book::{Moment, Numbers, Settings};
 
@@ -44,6 +44,7 @@ fn request(asked: Asked<'_>) -> Request<'_> {
                 ..FIELDS
             },
             body: b"",
+            range: RangeAsked::Unserved,
             given: 0,
             more: 0,
         },
@@ -55,6 +56,7 @@ fn request(asked: Asked<'_>) -> Request<'_> {
                 ..FIELDS
             },
             body: b"",
+            range: RangeAsked::Unserved,
             given: 0,
             more: 0,
         },
@@ -67,6 +69,7 @@ fn request(asked: Asked<'_>) -> Request<'_> {
                 ..FIELDS
             },
             body,
+            range: RangeAsked::Unserved,
             given: 0,
             more: 0,
         },
@@ -75,6 +78,7 @@ fn request(asked: Asked<'_>) -> Request<'_> {
             path: read_path(path),
             fields: FIELDS,
             body: b"",
+            range: RangeAsked::Unserved,
             given: 0,
             more: 0,
         },

@@ -2,7 +2,7 @@
 //! final one of it, and the end of the partial one; one whose length is told later; and the end of the first.
 use crate::tests::acme::FIELDS as PLAIN;
 use std::process::Abort;
-use tus_steps::{Field, Method, Request, TusFields};
+use tus_steps::{Field, Method, RangeAsked, Request, TusFields};
 use tus_text::read_path;
 use upload_book::Moment;
 
@@ -40,6 +40,7 @@ pub(crate) fn request(number: u64, path: &[u8]) -> Request<'static> {
         path: read_path(path),
         fields,
         body,
+        range: RangeAsked::Unserved,
         given: 0,
         more: 0,
     }
@@ -52,6 +53,7 @@ pub(crate) fn head(path: &[u8]) -> Request<'static> {
         path: read_path(path),
         fields: FIELDS,
         body: b"",
+        range: RangeAsked::Unserved,
         given: 0,
         more: 0,
     }

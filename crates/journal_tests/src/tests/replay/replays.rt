@@ -2,7 +2,7 @@
 use crate::tests::replay::changes::{acme, at, creation, joined, patch, put, replayed};
 use std::alloc::Global;
 use std::process::Abort;
-use upload_book::{Book, Change, Name, Refusal};
+use upload_book::{Book, ByteSpan, Change, Name, Refusal};
 
 const CONCAT: &[u8] = b"final;/files/acme/1 /files/acme/1";
 
@@ -25,7 +25,8 @@ fn some_frames(rt: &impl Abort, alloc: Global) -> Vec<u8> {
 }
 
 fn assert_content(rt: &impl Abort, book: &Book, name: Name, bytes: &[u8]) {
-    let Ok(content) = book.content(&name, at(rt, 9000), book.no_room()) else {
+    let all = ByteSpan::front(u64::MAX);
+    let Ok(content) = book.content(&name, at(rt, 9000), all, book.none_begun()) else {
         panic!(rt; "no content");
     };
     assert!(rt; content.as_slice() == bytes);

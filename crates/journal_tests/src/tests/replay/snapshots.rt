@@ -7,7 +7,7 @@ use book_replay::snapshot_records;
 use journal_frames::close_frame;
 use std::alloc::Global;
 use std::process::Abort;
-use upload_book::{Book, Change, Kind, Moment, Name, Refusal};
+use upload_book::{Book, ByteSpan, Change, Kind, Moment, Name, Refusal};
 
 // acme has an upload with two of its five bytes, a part, and a final upload of this and of one that has ended since. beta has
 // an upload, behind which one has ended.
@@ -111,7 +111,8 @@ fn assert_texts(rt: &impl Abort, book: &Book, name: &Name, metadata: &[u8], conc
 }
 
 fn assert_content(rt: &impl Abort, book: &Book, name: &Name, bytes: &[u8]) {
-    let Ok(content) = book.content(name, moment(rt), book.no_room()) else {
+    let all = ByteSpan::front(u64::MAX);
+    let Ok(content) = book.content(name, moment(rt), all, book.none_begun()) else {
         panic!(rt; "no content");
     };
     assert!(rt; content.as_slice() == bytes);
