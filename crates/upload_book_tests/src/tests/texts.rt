@@ -191,9 +191,9 @@ fn a_content_is_copied_piece_by_piece(rt: HostRuntime) {
     let mut book = new_book(&rt, rt.alloc(), NUMBERS);
     part(&rt, &mut book, b"abcde");
     let name = acme(1);
-    let begun = begun_at(&rt, &book, &name, 0, b"abcd");
+    let begun = begun_at(&rt, rt.alloc(), &book, &name, 0, b"abcd");
     assert_handed_over(&rt, &book, &name, ByteSpan::front(5), begun, b"abcde");
-    let begun = begun_at(&rt, &book, &name, 1, b"bcde");
+    let begun = begun_at(&rt, rt.alloc(), &book, &name, 1, b"bcde");
     let span = ByteSpan { first: 1, count: 4 };
     assert_handed_over(&rt, &book, &name, span, begun, b"bcde");
 }
@@ -204,20 +204,27 @@ fn a_content_begins_elsewhere(rt: HostRuntime) {
     let mut book = new_book(&rt, rt.alloc(), NUMBERS);
     part(&rt, &mut book, b"abcde");
     let name = acme(1);
-    let begun = begun_at(&rt, &book, &name, 1, b"bcde");
+    let begun = begun_at(&rt, rt.alloc(), &book, &name, 1, b"bcde");
     assert_handed_over(&rt, &book, &name, ByteSpan::front(5), begun, b"abcde");
-    let begun = begun_at(&rt, &book, &name, 1, b"bcde");
+    let begun = begun_at(&rt, rt.alloc(), &book, &name, 1, b"bcde");
     let span = ByteSpan { first: 1, count: 2 };
     assert_handed_over(&rt, &book, &name, span, begun, b"bc");
 }
 
 // Bytes of the upload from a place on, copied in two pieces of at most three: these, four at most.
-fn begun_at(rt: &impl Abort, book: &Book, name: &Name, first: u64, bytes: &[u8]) -> Begun
+fn begun_at(
+    rt: &impl Abort,
+    alloc: Global,
+    book: &Book,
+    name: &Name,
+    first: u64,
+    bytes: &[u8],
+) -> Begun
     ensures { IsBegun (plain_of book.now) name.now result.first result.bytes.items }
 {
     let mut begun = Begun {
         first,
-        bytes: Vec::with_capacity(rt.alloc(), 4).expect(rt, "memory"),
+        bytes: Vec::with_capacity(alloc, 4).expect(rt, "memory"),
     };
     book.read_ahead(name, moment(rt, 1000), &mut begun, 3);
     assert!(rt; begun.bytes.as_slice() == &bytes[..3]);
