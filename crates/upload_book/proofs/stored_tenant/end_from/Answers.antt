@@ -73,7 +73,7 @@ loop-uploads-preserved c =
       capacity = c.pop.ensures.capacity ∙ so_far.capacity;
       boxes = omega (arith, so_far.boxes, c.give_back.ensures.spare, boxes_in-most (is_boxed c.give_back-texts.result.1), popped.long, c.loop-uploads.uploads.ok.0, c.pop.new.self.ok.0);
       each = λ boxed.
-      let one : boxes_in (is_boxed c.give_back-texts.result.1) ≡ 1 = ap boxes_in (c.give_back-texts.ensures.kind ∙ popped-is IsBoxed entries (length front) e popped.within popped.read boxed) in
-      omega (arith, so_far.each boxed, c.give_back.ensures.spare, one, popped.long, c.loop-uploads.uploads.ok.0, c.pop.new.self.ok.0);
+          let one : boxes_in (is_boxed c.give_back-texts.result.1) ≡ 1 = ap boxes_in (c.give_back-texts.ensures.kind ∙ popped-is IsBoxed entries (length front) e popped.within popped.read boxed) in
+          omega (arith, so_far.each boxed, c.give_back.ensures.spare, one, popped.long, c.loop-uploads.uploads.ok.0, c.pop.new.self.ok.0);
       spare_room = c.give_back.ensures.capacity ∙ so_far.spare_room;
     }

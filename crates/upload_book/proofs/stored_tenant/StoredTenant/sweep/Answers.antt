@@ -70,6 +70,6 @@ returns-clause-room_stays c = λ room has.
           (All-filter (λ (e : Entry StoredUpload). is_left (Some c.args.now) e.kept.expires) (IsKind room) before.items has.boxed);
       spare = λ few. omega (arith, has.spare few, c.end_from.ensures.spare_room);
       boxes = λ few.
-      let each = all-boxed room moved.items few (All-permutation (IsKind room) before.items moved.items c.gather_left-left.ensures.moved has.boxed) in
-      omega (arith, has.boxes few, c.end_from.ensures.boxes each, same);
+          let each = all-boxed room moved.items few (All-permutation (IsKind room) before.items moved.items c.gather_left-left.ensures.moved has.boxed) in
+          omega (arith, has.boxes few, c.end_from.ensures.boxes each, same);
     }
