@@ -227,7 +227,7 @@ fn begun_at(
         bytes: Vec::with_capacity(alloc, 4).expect(rt, "memory"),
     };
     book.read_ahead(name, moment(rt, 1000), &mut begun, 3);
-    assert!(rt; begun.bytes.as_slice() == &bytes[..3]);
+    assert!(rt; begun.bytes.len() == 3 && bytes.starts_with(&begun.bytes));
     book.read_ahead(name, moment(rt, 1000), &mut begun, 3);
     assert!(rt; begun.bytes.as_slice() == bytes);
     begun
