@@ -57,9 +57,14 @@ static UNSERVED: [Row; 2] = rows! {
     "a range without a byte": [POST, PATCH_ALL, GET, b"Range: bytes=-0\r\n\r\n"] => [CREATED, COMPLETED, CONTENT], Input, Some(10);
 };
 
-/// Has each conversation on a connection with these limits.
-fn check(rt: &impl Abort, alloc: Global, rows: &[Row], limits: RequestLimits) {
+/// Has each conversation on a connection that serves ranges or none.
+fn check(rt: &impl Abort, alloc: Global, rows: &[Row], ranges: bool) {
     for row in rows {
+        let limits = RequestLimits {
+            plain: 64,
+            other: 64,
+            ranges,
+        };
         let sent = joined(rt, alloc, row.sent);
         let written = joined(rt, alloc, row.written);
         let buffers = Buffers::new(alloc).expect(rt, "memory");
@@ -75,15 +80,10 @@ fn check(rt: &impl Abort, alloc: Global, rows: &[Row], limits: RequestLimits) {
 
 #[test]
 fn ranges_are_served(rt: HostRuntime) {
-    let limits = RequestLimits {
-        plain: 64,
-        other: 64,
-        ranges: true,
-    };
-    check(&rt, rt.alloc(), &SERVED, limits);
+    check(&rt, rt.alloc(), &SERVED, true);
 }
 
 #[test]
 fn ranges_are_ignored(rt: HostRuntime) {
-    check(&rt, rt.alloc(), &UNSERVED, RequestLimits::alike(64));
+    check(&rt, rt.alloc(), &UNSERVED, false);
 }
