@@ -56,7 +56,7 @@ patched-creates : (reply : Reply) → is_patched reply ≡ true → created_in r
 patched-creates (reply.Options max_size) is = absurd cc
 patched-creates (reply.Created tenant id offset expires) is = absurd cc
 patched-creates (reply.Head row) is = absurd cc
-patched-creates (reply.Content bytes extent) is = absurd cc
+patched-creates (reply.Content bytes extent metadata) is = absurd cc
 patched-creates (reply.Unsatisfiable len) is = absurd cc
 patched-creates (reply.Patched offset expires) is = refl
 patched-creates reply.Deleted is = absurd cc

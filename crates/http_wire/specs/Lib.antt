@@ -8,6 +8,7 @@ pub mod Conversation
 pub mod Exchange
 pub mod Fault
 pub mod Fields
+pub mod File
 pub mod NextMessage
 pub mod HeadText
 pub mod InPieces

@@ -12,6 +12,7 @@ use Rattle.tus_steps.specs.declared.reply.PathKind.{PathKind}
 use Rattle.tus_steps.specs.declared.reply.PathKind.TheVariants as place
 use Rattle.tus_steps.specs.declared.reply.Reply.{Reply}
 use Rattle.tus_steps.specs.declared.reply.Reply.TheVariants.{Options, Created, Head, Content, Unsatisfiable, Patched, Deleted, Refused}
+use Rattle.http_wire.specs.File.{any_type, disposition, file_type}
 use Rattle.http_wire.specs.Refusal as wire
 use Rattle.http_wire.specs.declared.framing.Framing.{Framing}
 use Rattle.http_wire.specs.declared.refusal.WireRefusal.{WireRefusal}
@@ -88,7 +89,7 @@ abbrev pub reply_status : Reply → ℕ
 reply_status (Options max_size) = 204
 reply_status (Created tenant id offset expires) = 201
 reply_status (Head row) = 200
-reply_status (Content bytes extent) = content_status extent
+reply_status (Content bytes extent metadata) = content_status extent
 reply_status (Unsatisfiable len) = 416
 reply_status (Patched offset expires) = 204
 reply_status Deleted = 204
@@ -152,7 +153,7 @@ is_told Whole = true
 is_told (Range first last len) = true
 
 abbrev pub tells_ranges : Reply → Bool
-tells_ranges (Content bytes extent) = is_told extent
+tells_ranges (Content bytes extent metadata) = is_told extent
 tells_ranges _ = false
 
 -- which bytes of how many it gives, or how many there are where it gives none of them (RFC 9110, section 14.4)
@@ -162,9 +163,21 @@ range_of Whole = []
 range_of (Range first last len) = codes "bytes " ++ decimal first ++ codes "-" ++ decimal last ++ codes "/" ++ decimal len
 
 abbrev pub content_range_in : Reply → List ℕ
-content_range_in (Content bytes extent) = range_of extent
+content_range_in (Content bytes extent metadata) = range_of extent
 content_range_in (Unsatisfiable len) = codes "bytes */" ++ decimal len
 content_range_in _ = []
+
+-- what a body is: the bytes of an upload, whose type is told where ranges are, or the word of a refusal
+abbrev pub media_in : Reply → List ℕ
+media_in (Content bytes extent metadata) = if is_told extent then file_type metadata else any_type
+media_in (Unsatisfiable len) = codes "text/plain"
+media_in (Refused why head at expires) = codes "text/plain"
+media_in _ = []
+
+-- what a browser is to do with a body of this type, and the name of the file; told where ranges are
+abbrev pub disposition_in : List ℕ → Reply → List ℕ
+disposition_in media (Content bytes extent metadata) = if is_told extent then disposition media metadata else []
+disposition_in media _ = []
 
 -- how many bytes the upload has
 abbrev pub offset_in : Reply → Option ℕ
@@ -222,19 +235,14 @@ own_fields r =
     ++ text_line (codes "Location") (location_in r)
     ++ line_if (tells_ranges r) (codes "Accept-Ranges") (codes "bytes")
     ++ text_line (codes "Content-Range") (content_range_in r)
+    ++ text_line (codes "Content-Disposition") (disposition_in (media_in r) r)
+    ++ line_if (tells_ranges r) (codes "X-Content-Type-Options") (codes "nosniff")
     ++ number_line (codes "Upload-Offset") (offset_in r)
     ++ length_line r
     ++ text_line (codes "Upload-Metadata") (metadata_in r)
     ++ text_line (codes "Upload-Concat") (concat_in r)
     ++ moment_line (codes "Upload-Expires") (expires_in r)
     ++ line_if (is_uncached r) (codes "Cache-Control") (codes "no-store")
-
--- what a body is: the bytes of an upload, or the word of a refusal
-abbrev pub media_in : Reply → List ℕ
-media_in (Content bytes extent) = codes "application/octet-stream"
-media_in (Unsatisfiable len) = codes "text/plain"
-media_in (Refused why head at expires) = codes "text/plain"
-media_in _ = []
 
 -- the body that tells a refusal's word
 abbrev pub word_body : List ℕ → List ℕ
@@ -246,7 +254,7 @@ range_word = codes "range"
 
 -- the body of a reply
 abbrev pub body_in : Reply → List ℕ
-body_in (Content bytes extent) = bytes
+body_in (Content bytes extent metadata) = bytes
 body_in (Unsatisfiable len) = word_body range_word
 body_in (Refused why head at expires) = word_body (word_of why)
 body_in _ = []

@@ -1,5 +1,6 @@
 //! Replies and refusals, put to what is to be sent.
 
+pub mod file;
 pub mod last_date;
 pub mod own_fields;
 pub mod page;

@@ -8,6 +8,7 @@ mod conversations;
 mod creations;
 mod driven;
 mod faults;
+mod files;
 mod hostile;
 mod limits;
 mod malformed;

@@ -8,7 +8,8 @@ use Rattle.std.proofs.lemmas.Bool.Decides.{nat_tests}
 use Rattle.std.proofs.lemmas.Fmt.{decimal_by_steps}
 use Rattle.tus_text.specs.Date.{date_parts, expires_text}
 use Rattle.tus_text.proofs.DateLemmas.{date_parts-valid}
-use Rattle.service_watch.specs.Escape.{escape, escaped, hex_digit, is_plain, shown}
+use Rattle.service_watch.specs.Escape.{escaped, is_plain, shown}
+use Rattle.tus_text.specs.Escape.{escape_unless, escaped_unless, hex_digit}
 use Rattle.tus_steps.specs.declared.method.Method.TheVariants as method
 use Rattle.service_watch.specs.CutLine.{CutLine}
 use Rattle.service_watch.specs.Laws.{AreBytes, FitsCut, FitsRequest, IsOneLine}
@@ -105,10 +106,10 @@ escape-plain b h =
     let high : b ≤ 126 = grind (arith, nat_tests, last.1) in
     parted-visible b 0 [] low high parted-nil
 
-parted-escape : (b : ℕ) → b < 256 → IsParted 0 (escape b)
+parted-escape : (b : ℕ) → b < 256 → IsParted 0 (escape_unless is_plain b)
 parted-escape b fits = parted-escape_by (is_plain b) refl
   where
-    parted-escape_by : (plain : Bool) → is_plain b ≡ plain → IsParted 0 (escape b)
+    parted-escape_by : (plain : Bool) → is_plain b ≡ plain → IsParted 0 (escape_unless is_plain b)
     parted-escape_by true h = rw h (escape-plain b h)
     parted-escape_by false h =
         rw h
@@ -120,7 +121,7 @@ pub parted-escaped : (text : List ℕ) → AreBytes text → IsParted 0 (escaped
 unfolding escaped
 parted-escaped [] h = parted-nil
 parted-escaped (b ∷ text) h =
-    parted-append 0 0 (escape b) (flat_map escape text) (parted-escape b (All-head (λ (x : ℕ). x < 256) b text h))
+    parted-append 0 0 (escape_unless is_plain b) (escaped_unless is_plain text) (parted-escape b (All-head (λ (x : ℕ). x < 256) b text h))
     (parted-escaped text (All-tail (λ (x : ℕ). x < 256) b text h))
 
 pub parted-shown : (text : List ℕ) → AreBytes text → IsParted 0 (shown text)

@@ -1,25 +1,28 @@
 -- What was found of a request is what it asks for, and its step.
-use Rattle.std.proofs.Common.{◌≡◌, ◌≢◌, ◌<◌, ◌+◌, ◌-◌, ℕ, [], ◌∷◌, arith, true, false, List, length, take, Option, None, Some, Result, Ok, Err, IfOk, IfErr, OnOk, OnErr, inl, inr, refl, sym, ap, ◌∙◌, subst}
+use Rattle.std.proofs.Common.{◌≡◌, ◌≢◌, ◌<◌, ◌+◌, ◌-◌, ℕ, [], ◌∷◌, arith, true, false, List, length, take, Option, None, Some, Result, Ok, Err, IfOk, IfErr, OnOk, OnErr, inl, inr, refl, sym, ap, ap₂, ◌∙◌, subst}
 use Rattle.std.proofs.lemmas.Bool.{cases_Bool}
 use Rattle.std.proofs.lemmas.List.{drop_all, take_all}
 use Rattle.std.specs.Result.{IsOkAnd}
 use Rattle.upload_book.specs.Change.{MayLackFor, book_after_change, change_answer, change_lacking}
-use Rattle.upload_book.specs.Content.{LacksRoom, bytes_at, content_answer, len_answer, span_answer, with_content}
+use Rattle.upload_book.specs.Content.{LacksRoom, bytes_at, bytes_of, content_answer, len_answer, span_answer, with_content}
 use Rattle.upload_book.specs.declared.content.ByteSpan.{ByteSpan}
 use Rattle.upload_book.specs.declared.append.Refused.{Refused}
 use Rattle.upload_book.specs.declared.change.Change.{Change}
 use Rattle.upload_book.specs.declared.change.Change.TheVariants as change
 use Rattle.upload_book.specs.declared.change.Outcome.{Outcome}
 use Rattle.upload_book.specs.declared.change.Outcome.TheVariants as outcome
+use Rattle.upload_book.specs.declared.head_row.HeadRow.{HeadRow}
 use Rattle.upload_book.specs.declared.head_row.Name.{Name}
 use Rattle.upload_book.specs.Operation.{Operation}
 use Rattle.upload_book.specs.Operation as operation
 use Rattle.upload_book.specs.declared.refusal.Refusal.{Refusal}
 use Rattle.upload_book.specs.declared.refusal.Refusal.TheVariants as refusal
-use Rattle.upload_book.specs.Look.{look_answer}
+use Rattle.upload_book.specs.Look.{look_answer, row_of}
 use Rattle.upload_book.specs.PlainBook.{PlainBook, answer_of}
 use Rattle.upload_book.specs.Refusal.{IsAnswer}
 use Rattle.upload_book.specs.Settings.{Settings}
+use Rattle.upload_book.specs.TenantBook.{visible_upload}
+use Rattle.upload_book.specs.Upload.{Upload}
 use Rattle.upload_book.proofs.Restoring.PieceSteps.{piece-settings}
 use Rattle.tus_steps.specs.Asked.{CanBeAsked, asked_by, asked_for, asked_in, asked_or, change_in}
 use Rattle.tus_steps.specs.Changing.{IsFound, IsStepOf, change_reply}
@@ -33,9 +36,9 @@ use Rattle.tus_steps.specs.declared.requested_change.ChangeOf.{ChangeOf}
 use Rattle.tus_steps.specs.Method.{is_options}
 use Rattle.tus_steps.specs.Operation.{operation_of}
 use Rattle.tus_steps.specs.Range.{bytes_in, extent_of}
-use Rattle.tus_steps.specs.Reply.{IsRefusing, bytes_told, content_reply, extent_reply, given_reply, head_reply, refusing}
+use Rattle.tus_steps.specs.Reply.{IsRefusing, bytes_told, content_reply, extent_reply, given_reply, head_reply, metadata_of, refusing}
 use Rattle.tus_steps.specs.Request.{Request}
-use Rattle.tus_steps.specs.Step.{IsContentReply, IsStep}
+use Rattle.tus_steps.specs.Step.{IsContentReply, IsStep, operation_reply}
 use Rattle.tus_steps.proofs.ChangeLemmas.{change-step}
 use Rattle.tus_steps.proofs.StepLemmas.{step-by}
 
@@ -111,16 +114,21 @@ gives-some room [] lacks = absurd (omega (arith, lacks))
 gives-some room (byte ∷ bytes) lacks = λ empty. absurd (cc)
 
 -- and is one to a GET that gives some as a whole
-whole-some : (r : Request) (answer : Result (List ℕ) Refusal) → bytes_told (content_reply r answer) ≢ [] → IsOkAnd answer (λ bytes. bytes ≢ [])
-whole-some r (Err why) some = absurd (some refl)
-whole-some r (Ok []) some = absurd (some (none (extent_of r.range 0)))
+whole-some : (r : Request) (row : Result HeadRow Refusal) (answer : Result (List ℕ) Refusal) → bytes_told (content_reply r row answer) ≢ [] → IsOkAnd answer (λ bytes. bytes ≢ [])
+whole-some r row (Err why) some = absurd (some refl)
+whole-some r row (Ok []) some = absurd (some (none (extent_of r.range 0)))
   where
-    none : (extent : Option Extent) → bytes_told (extent_reply extent []) ≡ []
+    none : (extent : Option Extent) → bytes_told (extent_reply extent (metadata_of row) []) ≡ []
     none None = refl
     none (Some extent.Plain) = refl
     none (Some extent.Whole) = refl
     none (Some (extent.Range first last len)) = ap (take ((last + 1) - first)) (drop_all first [] (omega arith)) ∙ take_all ((last + 1) - first) [] (omega arith)
-whole-some r (Ok (byte ∷ bytes)) some = λ empty. absurd (cc)
+whole-some r row (Ok (byte ∷ bytes)) some = λ empty. absurd (cc)
+
+-- an upload that isn't seen gives no bytes
+unseen-bytes : (seen : Result Upload Refusal) (why : Refusal) → row_of seen ≡ Err why → bytes_of seen ≡ Err why
+unseen-bytes (Ok u) why is = absurd cc
+unseen-bytes (Err other) why is = cc
 
 -- what is told of how many bytes a GET gives is so of its bytes
 pub content-refused : (answer : Result (List ℕ) Refusal) (why : Refusal) → with_content (λ bytes. length bytes) answer ≡ Err why → answer ≡ Err why
@@ -155,37 +163,43 @@ module _ (b : PlainBook) (r : Request) (now : ℕ) where
       step-by b r now (operation.Content name) _ b asks.0 asks.1 (elim answer [
         | inl same ↦ inl (same, refl)
         | inr lacks ↦
-            let some = gives-some room (bytes_told (content_reply r (answer_of b name.tenant (content_answer name.id now)))) lacks.0 in
-            inr ((whole-some r (answer_of b name.tenant (content_answer name.id now)) some, some), lacks.1, refl)
+            let some = gives-some room (bytes_told (operation_reply b r now (operation.Content name))) lacks.0 in
+            inr ((whole-some r (answer_of b name.tenant (look_answer name.id now)) (answer_of b name.tenant (content_answer name.id now)) some, some), lacks.1, refl)
       ])
 
-  -- the replies to a GET: one that is refused,
+  -- the replies to a GET: one of an upload that isn't seen,
+  pub reply-unseen : (name : Name) (room : ℕ) (why : Refusal) → answer_of b name.tenant (look_answer name.id now) ≡ Err why → IsContentReply b r now name room (refusing r why None)
+  reply-unseen name room why unseen =
+      inl (sym (ap (content_reply r (answer_of b name.tenant (look_answer name.id now))) (unseen-bytes (answer_of b name.tenant (λ n part. visible_upload part name.id now)) why unseen)))
+
+  -- one that is refused for its bytes,
   pub reply-refused : (name : Name) (room : ℕ) (why : Refusal) → answer_of b name.tenant (len_answer name.id now) ≡ Err why → IsContentReply b r now name room (refusing r why None)
   reply-refused name room why refused =
-      inl (sym (ap (content_reply r) (content-refused (answer_of b name.tenant (content_answer name.id now)) why refused)))
+      inl (sym (ap (content_reply r (answer_of b name.tenant (look_answer name.id now))) (content-refused (answer_of b name.tenant (content_answer name.id now)) why refused)))
 
   -- one that has none of the bytes,
   pub reply-none : (name : Name) (room len : ℕ) → answer_of b name.tenant (len_answer name.id now) ≡ Ok len → extent_of r.range len ≡ None → IsContentReply b r now name room (reply.Unsatisfiable len)
   reply-none name room len told none =
       let found = content-len (answer_of b name.tenant (content_answer name.id now)) len told in
+      let row = answer_of b name.tenant (look_answer name.id now) in
       let bytes = found.0 in
-      let same : content_reply r (Ok bytes) ≡ reply.Unsatisfiable (length bytes) = ap (λ extent. extent_reply extent bytes) (ap (extent_of r.range) found.2 ∙ none) in
-      inl (sym (ap (content_reply r) found.1 ∙ same ∙ ap reply.Unsatisfiable found.2))
+      let same : content_reply r row (Ok bytes) ≡ reply.Unsatisfiable (length bytes) = ap (λ extent. extent_reply extent (metadata_of row) bytes) (ap (extent_of r.range) found.2 ∙ none) in
+      inl (sym (ap (content_reply r row) found.1 ∙ same ∙ ap reply.Unsatisfiable found.2))
 
   -- and one that gives some of them, which were given so much room
-  pub reply-given : (name : Name) (room len : ℕ) (extent : Extent) (span : ByteSpan) (given : Result (List ℕ) Refusal) → answer_of b name.tenant (len_answer name.id now) ≡ Ok len → extent_of r.range len ≡ Some extent
+  pub reply-given : (name : Name) (room len : ℕ) (extent : Extent) (span : ByteSpan) (row : HeadRow) (given : Result (List ℕ) Refusal) → answer_of b name.tenant (look_answer name.id now) ≡ Ok row → answer_of b name.tenant (len_answer name.id now) ≡ Ok len → extent_of r.range len ≡ Some extent
       → ((bytes : List ℕ) → length bytes ≡ len → bytes_at span bytes ≡ bytes_in extent bytes)
       → IsAnswer (answer_of b name.tenant (span_answer span name.id now)) (LacksRoom room (answer_of b name.tenant (span_answer span name.id now))) (Err refusal.Memory) given
-      → IsContentReply b r now name room (given_reply r extent given)
-  reply-given name room len extent span given told some same answer =
+      → IsContentReply b r now name room (given_reply r extent row.metadata given)
+  reply-given name room len extent span row given seen told some same answer =
       let found = content-len (answer_of b name.tenant (content_answer name.id now)) len told in
       let bytes = found.0 in
-      let whole : content_reply r (answer_of b name.tenant (content_answer name.id now)) ≡ reply.Content (bytes_in extent bytes) extent =
-      ap (content_reply r) found.1 ∙ ap (λ extent. extent_reply extent bytes) (ap (extent_of r.range) found.2 ∙ some) in
+      let whole : operation_reply b r now (operation.Content name) ≡ reply.Content (bytes_in extent bytes) extent row.metadata =
+      ap₂ (content_reply r) seen found.1 ∙ ap (λ extent. extent_reply extent row.metadata bytes) (ap (extent_of r.range) found.2 ∙ some) in
       let part : answer_of b name.tenant (span_answer span name.id now) ≡ Ok (bytes_in extent bytes) = ap (with_content (bytes_at span)) found.1 ∙ ap Ok (same bytes found.2) in
       elim answer [
-        | inl is ↦ inl (ap (given_reply r extent) (is ∙ part) ∙ sym whole)
-        | inr lacks ↦ inr (subst (λ (told : Reply). room < length (bytes_told told)) (sym whole) (subst (LacksRoom room) part lacks.0), ap (given_reply r extent) lacks.1)
+        | inl is ↦ inl (ap (given_reply r extent row.metadata) (is ∙ part) ∙ sym whole)
+        | inr lacks ↦ inr (subst (λ (told : Reply). room < length (bytes_told told)) (sym whole) (subst (LacksRoom room) part lacks.0), ap (given_reply r extent row.metadata) lacks.1)
       ]
 
   -- a step, by other names of what was given and left

@@ -29,7 +29,7 @@ use Rattle.tus_steps.specs.History.{is_of, next_after, next_of, part_of}
 use Rattle.tus_steps.specs.Isolation.{HasEachPart, quota_of}
 use Rattle.tus_steps.specs.Method.{is_options}
 use Rattle.tus_steps.specs.Operation.{operation_of}
-use Rattle.tus_steps.specs.Reply.{append_reply, content_reply, creation_reply, deletion_reply, extent_reply, head_reply}
+use Rattle.tus_steps.specs.Reply.{append_reply, content_reply, creation_reply, deletion_reply, extent_reply, head_reply, metadata_of}
 use Rattle.tus_steps.specs.Range.{extent_of}
 use Rattle.tus_steps.specs.Request.{Request}
 use Rattle.tus_steps.specs.Route.{tenant_name}
@@ -51,12 +51,12 @@ shown-next : (next : ℕ) (row : Result HeadRow Refusal) → next ≡ next_after
 shown-next next (Ok row) = refl
 shown-next next (Err why) = refl
 
-given-next : (next : ℕ) (r : Request) (bytes : Result (List ℕ) Refusal) → next ≡ next_after next (content_reply r bytes)
-given-next next r (Ok bytes) = by (extent_of r.range (length bytes)) where
-  by : (extent : Option Extent) → next ≡ next_after next (extent_reply extent bytes)
+given-next : (next : ℕ) (r : Request) (row : Result HeadRow Refusal) (bytes : Result (List ℕ) Refusal) → next ≡ next_after next (content_reply r row bytes)
+given-next next r row (Ok bytes) = by (extent_of r.range (length bytes)) where
+  by : (extent : Option Extent) → next ≡ next_after next (extent_reply extent (metadata_of row) bytes)
   by None = refl
   by (Some extent) = refl
-given-next next r (Err why) = refl
+given-next next r row (Err why) = refl
 
 appended-next : (part : TenantBook) (id : ℕ) (r : Request) (result : Result Upload Refused) → (with_appended part id result).next ≡ next_after part.next (append_reply r (told result))
 appended-next part id r (Ok u) = refl
@@ -74,7 +74,7 @@ next-on t n part c r now (operation.CreateWith u new first) =
     created-next t n part c r (Some (length first.bytes)) now new first (creation_refusal n (account_in n part c) part new first) refl
 next-on t n part c r now (operation.Concat u new) = joined-next t n part r now new (concat_refusal n part new now) refl
 next-on t n part c r now (operation.Look name) = shown-next part.next (look_answer name.id now n part)
-next-on t n part c r now (operation.Content name) = given-next part.next r (content_answer name.id now n part)
+next-on t n part c r now (operation.Content name) = given-next part.next r (look_answer name.id now n part) (content_answer name.id now n part)
 next-on t n part c r now (operation.Append name chunk) = appended-next part name.id r (appended name.id chunk now c n part)
 next-on t n part c r now (operation.Terminate name) = ended-next n part name.id r now (visible_upload part name.id now) refl
 

@@ -48,7 +48,7 @@ reply_on t n part charged r now (operation.CreateWith u new first) =
     creation_reply r (Some (length first.bytes)) (create_answer t new first now charged n part)
 reply_on t n part charged r now (operation.Concat u new) = creation_reply r None (concat_answer t new now n part)
 reply_on t n part charged r now (operation.Look name) = head_reply (look_answer name.id now n part)
-reply_on t n part charged r now (operation.Content name) = content_reply r (content_answer name.id now n part)
+reply_on t n part charged r now (operation.Content name) = content_reply r (look_answer name.id now n part) (content_answer name.id now n part)
 reply_on t n part charged r now (operation.Append name chunk) = append_reply r (append_answer name.id chunk now charged n part)
 reply_on t n part charged r now (operation.Terminate name) = deletion_reply r (terminate_answer name.id now n part)
 

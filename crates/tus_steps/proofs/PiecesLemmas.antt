@@ -167,7 +167,7 @@ pub rest-patch : (r : Request) (k : ℕ) (reply : Reply) → is_patched reply �
 rest-patch r k (reply.Options max_size) is = absurd cc
 rest-patch r k (reply.Created tenant id offset expires) is = absurd cc
 rest-patch r k (reply.Head row) is = absurd cc
-rest-patch r k (reply.Content bytes extent) is = absurd cc
+rest-patch r k (reply.Content bytes extent metadata) is = absurd cc
 rest-patch r k (reply.Unsatisfiable len) is = absurd cc
 rest-patch r k (reply.Patched offset expires) is = refl
 rest-patch r k reply.Deleted is = absurd cc

@@ -20,7 +20,7 @@ abbrev pub is_patched : Reply → Bool
 is_patched (Options max_size) = false
 is_patched (Created tenant id offset expires) = false
 is_patched (Head row) = false
-is_patched (Content bytes extent) = false
+is_patched (Content bytes extent metadata) = false
 is_patched (Unsatisfiable len) = false
 is_patched (Patched offset expires) = true
 is_patched Deleted = false
@@ -31,7 +31,7 @@ abbrev pub created_in : Reply → Option ℕ
 created_in (Options max_size) = None
 created_in (Created tenant id offset expires) = Some id
 created_in (Head row) = None
-created_in (Content bytes extent) = None
+created_in (Content bytes extent metadata) = None
 created_in (Unsatisfiable len) = None
 created_in (Patched offset expires) = None
 created_in Deleted = None

@@ -38,24 +38,29 @@ abbrev pub head_reply : Result HeadRow Refusal → Reply
 head_reply (Ok row) = reply.Head row
 head_reply (Err why) = reply.Refused why true place.Upload None
 
--- the reply that gives some of an upload's bytes, or tells how many these are where it gives none of them
-abbrev pub extent_reply : Option Extent → List ℕ → Reply
-extent_reply None bytes = reply.Unsatisfiable (length bytes)
-extent_reply (Some extent) bytes = reply.Content (bytes_in extent bytes) extent
+-- the reply that gives some of the bytes of an upload with this metadata, or tells how many these are where it gives none of them
+abbrev pub extent_reply : Option Extent → List ℕ → List ℕ → Reply
+extent_reply None metadata bytes = reply.Unsatisfiable (length bytes)
+extent_reply (Some extent) metadata bytes = reply.Content (bytes_in extent bytes) extent metadata
 
--- the reply to a GET
-abbrev pub content_reply : Request → Result (List ℕ) Refusal → Reply
-content_reply r (Ok bytes) = extent_reply (extent_of r.range (length bytes)) bytes
-content_reply r (Err why) = refusing r why None
+-- the metadata of the upload of a row
+abbrev pub metadata_of : Result HeadRow Refusal → List ℕ
+metadata_of (Ok row) = row.metadata
+metadata_of (Err why) = []
 
--- the same by what it gives, where that is not refused
-abbrev pub given_reply : Request → Extent → Result (List ℕ) Refusal → Reply
-given_reply r extent (Ok bytes) = reply.Content bytes extent
-given_reply r extent (Err why) = refusing r why None
+-- the reply to a GET of the upload of a row, by its bytes
+abbrev pub content_reply : Request → Result HeadRow Refusal → Result (List ℕ) Refusal → Reply
+content_reply r row (Ok bytes) = extent_reply (extent_of r.range (length bytes)) (metadata_of row) bytes
+content_reply r row (Err why) = refusing r why None
+
+-- the reply to a GET that gives these bytes, which are that part of an upload with this metadata, or refuses it
+abbrev pub given_reply : Request → Extent → List ℕ → Result (List ℕ) Refusal → Reply
+given_reply r extent metadata (Ok bytes) = reply.Content bytes extent metadata
+given_reply r extent metadata (Err why) = refusing r why None
 
 -- the bytes of an upload that a reply gives
 abbrev pub bytes_told : Reply → List ℕ
-bytes_told (reply.Content bytes extent) = bytes
+bytes_told (reply.Content bytes extent metadata) = bytes
 bytes_told _ = []
 
 -- the reply to a PATCH

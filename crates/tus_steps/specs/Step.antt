@@ -26,7 +26,8 @@ operation_reply b r now (CreateWith tenant new first) =
     creation_reply r (Some (length first.bytes)) (answer_of b tenant (create_answer tenant new first now b.charged))
 operation_reply b r now (Concat tenant new) = creation_reply r None (answer_of b tenant (concat_answer tenant new now))
 operation_reply b r now (Look name) = head_reply (answer_of b name.tenant (look_answer name.id now))
-operation_reply b r now (Content name) = content_reply r (answer_of b name.tenant (content_answer name.id now))
+operation_reply b r now (Content name) =
+    content_reply r (answer_of b name.tenant (look_answer name.id now)) (answer_of b name.tenant (content_answer name.id now))
 operation_reply b r now (Append name chunk) = append_reply r (answer_of b name.tenant (append_answer name.id chunk now b.charged))
 operation_reply b r now (Terminate name) = deletion_reply r (answer_of b name.tenant (terminate_answer name.id now))
 
@@ -63,5 +64,5 @@ IsStep b r now reply after =
 -- that are more bytes, that memory was lacking.
 abbrev pub IsContentReply : PlainBook → Request → ℕ → Name → ℕ → Reply → Type 0
 IsContentReply b r now name room reply =
-    let answer = content_reply r (answer_of b name.tenant (content_answer name.id now)) in
+    let answer = operation_reply b r now (Content name) in
     IsAnswer answer (room < length (bytes_told answer)) (refusing r refusal.Memory None) reply

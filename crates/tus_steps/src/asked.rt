@@ -109,6 +109,10 @@ fn answer_content(
     requires { IsBegun (plain_of book.now) name.now begun.first begun.bytes.items }
     ensures { IsContentReply (plain_of book.now) request.now now name.now (vec_capacity begun.bytes) (reply_in reply.new) }
 {
+    let row = match book.look_lent(name, now) {
+        Ok(row) => row,
+        Err(refusal) => return reply.refuse(request, refusal, None),
+    };
     let len = match book.content_len(name, now) {
         Ok(len) => len,
         Err(refusal) => return reply.refuse(request, refusal, None),
@@ -116,7 +120,7 @@ fn answer_content(
     match request.range.extent(len) {
         Some(extent) => {
             let content = book.content(name, now, extent.span(len), begun);
-            reply.put_content(request, extent, content);
+            reply.put_content(request, extent, row.metadata(), content);
         }
         None => reply.kind = ReplyKind::Unsatisfiable { len },
     }

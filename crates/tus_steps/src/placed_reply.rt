@@ -1,4 +1,4 @@
-ghost use Rattle.std.specs.Prelude.{◌≡◌, Err, Ok};
+ghost use Rattle.std.specs.Prelude.{◌≡◌, ◌≤◌, Err, Ok, length};
 ghost use Rattle.tus_steps.specs.Changing.{change_reply};
 ghost use Rattle.tus_steps.specs.declared.reply.Reply.TheVariants.{Deleted};
 ghost use Rattle.tus_steps.specs.InPieces.{as_creation, created_in, is_patched};
@@ -11,7 +11,7 @@ use crate::request::Request;
 use tus_text::{Path, Tenant, Text};
 use upload_book::{Content, Created, HeadRow, Moment, Outcome, Refusal, Refused, RowRef};
 
-/// What a [`Reply`] is, but for the row of a HEAD: so it is small.
+/// What a [`Reply`] is, but for the row of a HEAD and the metadata of a GET: so it is small.
 #[derive(Drop)]
 pub enum ReplyKind {
     /// 204: what the server can do.
@@ -59,8 +59,8 @@ pub enum ReplyKind {
     },
 }
 
-/// A place for replies, one after another: it stands for the [`Reply`] of this `kind`, with `row` where that is a HEAD's. No
-/// reply moves the row; where the kind is another, what lies there means nothing.
+/// A place for replies, one after another: it stands for the [`Reply`] of this `kind`, with `row` where that is a HEAD's, and
+/// with its metadata where it is a GET's. No reply moves the row; what else lies there means nothing.
 #[derive(Drop)]
 pub struct PlacedReply {
     pub kind: ReplyKind,
@@ -100,7 +100,14 @@ impl PlacedReply {
                 row = told;
                 ReplyKind::Head
             }
-            Reply::Content { bytes, extent } => ReplyKind::Content { bytes, extent },
+            Reply::Content {
+                bytes,
+                extent,
+                metadata,
+            } => {
+                row.metadata = metadata;
+                ReplyKind::Content { bytes, extent }
+            }
             Reply::Unsatisfiable { len } => ReplyKind::Unsatisfiable { len },
             Reply::Patched { offset, expires } => ReplyKind::Patched { offset, expires },
             Reply::Deleted => ReplyKind::Deleted,
@@ -123,7 +130,8 @@ impl PlacedReply {
     pub fn into_reply(self) -> Reply
         ensures { result ≡ reply_in self }
     {
-        match self.kind {
+        let PlacedReply { kind, row } = self;
+        match kind {
             ReplyKind::Options { max_size } => Reply::Options { max_size },
             ReplyKind::Created {
                 tenant,
@@ -136,8 +144,12 @@ impl PlacedReply {
                 offset,
                 expires,
             },
-            ReplyKind::Head => Reply::Head(self.row),
-            ReplyKind::Content { bytes, extent } => Reply::Content { bytes, extent },
+            ReplyKind::Head => Reply::Head(row),
+            ReplyKind::Content { bytes, extent } => Reply::Content {
+                bytes,
+                extent,
+                metadata: row.metadata,
+            },
             ReplyKind::Unsatisfiable { len } => Reply::Unsatisfiable { len },
             ReplyKind::Patched { offset, expires } => Reply::Patched { offset, expires },
             ReplyKind::Deleted => Reply::Deleted,
@@ -200,17 +212,22 @@ impl PlacedReply {
         };
     }
 
-    /// Answers a GET by these bytes of the upload, or by why it is refused.
+    /// Answers a GET by these bytes of the upload, which has this metadata, or by why it is refused.
     pub fn put_content(
         &mut self,
         request: &Request,
         extent: Extent,
+        metadata: &[u8],
         outcome: Result<Content, Refusal>,
     )
-        ensures { reply_in self.new ≡ given_reply request.now extent outcome }
+        requires { length metadata.now ≤ 1024 }
+        ensures { reply_in self.new ≡ given_reply request.now extent metadata.now outcome }
     {
         match outcome {
-            Ok(bytes) => self.kind = ReplyKind::Content { bytes, extent },
+            Ok(bytes) => {
+                self.row.metadata.set(metadata);
+                self.kind = ReplyKind::Content { bytes, extent };
+            }
             Err(refusal) => self.refuse(request, refusal, None),
         }
     }

@@ -1,6 +1,6 @@
 use crate::range::Extent;
 use crate::request::Request;
-use tus_text::Tenant;
+use tus_text::{METADATA_MAX, Tenant, Text};
 use upload_book::{Content, HeadRow, Moment, Refusal};
 
 /// What the path of a request names, as far as a reply tells it.
@@ -34,10 +34,11 @@ pub enum Reply {
     /// 200: what stands of the upload.
     Head(HeadRow),
 
-    /// 200 or 206: these bytes of the upload.
+    /// 200 or 206: these bytes of the upload, which has this metadata.
     Content {
         bytes: Content,
         extent: Extent,
+        metadata: Text<METADATA_MAX>,
     },
 
     /// 416: of the upload's `len` bytes the range that was asked for has none.

@@ -2,6 +2,7 @@ pub mod ChecksumLemmas
 pub mod ConcatLemmas
 pub mod DateLemmas
 pub mod DistinctLemmas
+pub mod EscapeLemmas
 pub mod MetadataLemmas
 pub mod NumberLemmas
 pub mod PathLemmas

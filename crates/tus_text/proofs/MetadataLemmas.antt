@@ -1,5 +1,6 @@
 -- The pairs of a text, the first and the others, and how many bytes they take.
-use Rattle.std.proofs.Common.{◌≡◌, ℕ, ◌+◌, ◌<◌, ◌≤◌, true, List, [], ◌∷◌, ◌++◌, map, length, take, Result, Ok, Err, IfOk, IfErr, is_ok, inl, inr, sym, ap, ap₂, ◌∙◌, append_assoc, arith}
+use Rattle.std.specs.Prelude.{Bool, None, Option, Some, cond, false, find, option_map}
+use Rattle.std.proofs.Common.{◌≡◌, ℕ, ◌+◌, ◌<◌, ◌≤◌, true, List, [], ◌∷◌, ◌++◌, map, length, take, Result, Ok, Err, IfOk, IfErr, is_ok, inl, inr, sym, ap, ap₂, ◌∙◌, append_assoc, arith, refl}
 use Rattle.std.specs.List.{list_all, before_first, after_first, position_or_len}
 use Rattle.std.proofs.lemmas.Bool.{cases_eq, and_parts}
 use Rattle.std.proofs.lemmas.List.{length-take, length-drop, take_all, map-append}
@@ -77,3 +78,17 @@ module _ (text part after : List ℕ) (is_part : part ≡ before_first is_comma 
         ap (λ front. front ++ keys_of after) (map-append (λ (x : Key). x.now) keys (key ∷ []))
         ∙ append_assoc (texts_of keys) (key.now ∷ []) (keys_of after)
         ∙ ap (λ rest. texts_of keys ++ rest) (ap (λ first. first ∷ keys_of after) is_key ∙ sym (ap (map key_of) (pairs-more more)))
+
+-- the first element whose image passes a test
+pub find-map : {A B : Type 0} (test : B → Bool) (f : A → B) (xs : List A) → find test (map f xs) ≡ option_map f (find (λ x. test (f x)) xs)
+find-map test f [] = refl
+find-map test f (x ∷ xs) = by (test (f x)) (find-map test f xs)
+  where
+    by : (b : Bool) → find test (map f xs) ≡ option_map f (find (λ x. test (f x)) xs) → cond b (Some (f x)) (find test (map f xs)) ≡ option_map f (cond b (Some x) (find (λ x. test (f x)) xs))
+    by true rest = refl
+    by false rest = rest
+
+-- one function after another on what may be there
+pub map-twice : {A B C : Type 0} (f : B → C) (g : A → B) (x : Option A) → option_map (λ y. f (g y)) x ≡ option_map f (option_map g x)
+map-twice f g None = refl
+map-twice f g (Some x) = refl

@@ -2,8 +2,11 @@ pub mod Checksum
 pub mod Concat
 pub mod Cut
 pub mod Date
+pub mod Escape
+pub mod MediaType
 pub mod Metadata
 pub mod Number
+pub mod Pair
 pub mod Path
 pub mod Range
 pub mod Tenant

@@ -54,7 +54,7 @@ fn is_value(text: &[u8]) -> bool
 }
 
 // The key of the pair that `part` holds.
-fn key_in(part: &[u8]) -> &[u8]
+pub(crate) fn key_in(part: &[u8]) -> &[u8]
     ensures { result.now ≡ key_of (trim_spaces part.now) }
 {
     split_at_first(trim_spaces(part), b' ').0

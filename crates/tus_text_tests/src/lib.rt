@@ -9,6 +9,8 @@ mod concats;
 #[cfg(test)]
 mod dates;
 #[cfg(test)]
+mod files;
+#[cfg(test)]
 mod limits;
 #[cfg(test)]
 mod metadata;

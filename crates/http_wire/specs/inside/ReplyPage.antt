@@ -14,7 +14,7 @@ word_in _ = []
 
 -- a body that comes after it
 abbrev pub content_in : Reply → List ℕ
-content_in (Content bytes extent) = bytes
+content_in (Content bytes extent metadata) = bytes
 content_in _ = []
 
 -- what a reply puts on a page

@@ -1,17 +1,19 @@
 //! The fields of a reply of the steps, in their order.
 ghost use Rattle.std.specs.Prelude.{◌≡◌, ◌+◌, ◌≤◌, ◌++◌, decimal, length, codes};
-ghost use Rattle.http_wire.specs.ReplyText.{own_fields, length_line, declared_line, upload_path, tells_version, extensions_in, max_size_in, algorithms_in, allowed_in, location_in, tells_ranges, range_of, content_range_in, offset_in, metadata_in, concat_in, expires_in, is_uncached, line, line_if, text_line};
+ghost use Rattle.http_wire.specs.ReplyText.{own_fields, length_line, declared_line, upload_path, tells_version, extensions_in, max_size_in, algorithms_in, allowed_in, location_in, tells_ranges, range_of, content_range_in, disposition_in, media_in, offset_in, metadata_in, concat_in, expires_in, is_uncached, line, line_if, text_line};
 ghost use Rattle.tus_steps.specs.PlacedReply.{reply_in};
 
-use crate::write::page::{FIELDS_MAX, LINE_MAX, OPENING_MAX, Page, SHORT_MAX};
+use crate::write::file::put_disposition;
+use crate::write::page::{FIELDS_MAX, FILE_MAX, LINE_MAX, OPENING_MAX, Page, SHORT_MAX};
 use itoa::Buffer;
 use tus_steps::{Extent, PathKind, PlacedReply, ReplyKind};
 use upload_book::{Moment, Refusal};
 
-/// Puts the fields of a reply of the steps.
+/// Puts the fields of a reply of the steps whose body has this type.
 #[tactic(auto, unfolding(crate::specs::ReplyText::own_fields))]
-pub fn put_own_fields(page: &mut Page, reply: &PlacedReply)
-    requires { length page.old ≤ OPENING_MAX }
+pub fn put_own_fields(page: &mut Page, reply: &PlacedReply, media: &[u8])
+    requires room { length page.old ≤ OPENING_MAX }
+    requires media { media.now ≡ media_in (reply_in reply.now) }
     ensures text { page.new ≡ page.old ++ own_fields (reply_in reply.now) }
     ensures len { length page.new ≤ FIELDS_MAX }
 {
@@ -23,12 +25,26 @@ pub fn put_own_fields(page: &mut Page, reply: &PlacedReply)
     put_location(page, reply);
     page.put_line_if(tells_ranges(reply), b"Accept-Ranges", b"bytes");
     put_content_range(page, reply);
+    put_disposition_of(page, reply, media);
+    put_sniff_line_if(page, tells_ranges(reply));
     page.put_number_line(b"Upload-Offset", offset_in(reply));
     put_length(page, reply);
     page.put_text_line(b"Upload-Metadata", metadata_in(reply));
     page.put_text_line(b"Upload-Concat", concat_in(reply));
     page.put_moment_line(b"Upload-Expires", expires_in(reply));
     put_cache_line_if(page, is_uncached(reply));
+}
+
+// The line that keeps a browser from guessing a type, where the test holds. As it never changes, it is put at once.
+#[tactic(auto, unfolding(crate::specs::ReplyText::line, crate::specs::ReplyText::line_if))]
+fn put_sniff_line_if(page: &mut Page, test: bool)
+    requires { length page.old + 33 ≤ SHORT_MAX }
+    ensures text { page.new ≡ page.old ++ line_if test (codes "X-Content-Type-Options") (codes "nosniff") }
+    ensures len { length page.new ≤ length page.old + 33 }
+{
+    if test {
+        page.put(b"X-Content-Type-Options: nosniff\r\n");
+    }
 }
 
 // The line that keeps a reply out of caches, where the test holds. As it never changes, it is put at once.
@@ -193,6 +209,18 @@ fn put_none_of(page: &mut Page, len: u64)
     page.put(b"Content-Range: bytes */");
     page.put(digits.format(len).as_bytes());
     page.put(b"\r\n");
+}
+
+// What a browser is to do with a body of this type, where that is told.
+#[tactic(auto, unfolding(crate::specs::ReplyText::text_line))]
+fn put_disposition_of(page: &mut Page, reply: &PlacedReply, media: &[u8])
+    requires { length page.old + FILE_MAX ≤ SHORT_MAX }
+    ensures text { page.new ≡ page.old ++ text_line (codes "Content-Disposition") (disposition_in media.now (reply_in reply.now)) }
+    ensures len { length page.new ≤ length page.old + 817 }
+{
+    if tells_ranges(reply) {
+        put_disposition(page, media, reply.row.metadata.as_slice());
+    }
 }
 
 fn offset_in(reply: &PlacedReply) -> Option<u64>

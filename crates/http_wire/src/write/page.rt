@@ -5,6 +5,7 @@ use crate::write::last_date::LastDate;
 use itoa::Buffer;
 use std::alloc::{AllocError, Global};
 use std::marker::Model;
+use tus_text::MEDIA_TYPE_MAX;
 use upload_book::Moment;
 
 /// The most bytes of earlier replies on a page when one more begins.
@@ -22,16 +23,19 @@ pub const OPENING_MAX: usize = EARLIER_MAX + 200;
 /// The most bytes of the line of a number, a date or a path.
 pub const LINE_MAX: usize = 100;
 
+/// The most bytes of the line that tells of a file.
+pub const FILE_MAX: usize = 900;
+
 /// The most bytes of a page before the two long lines, which are those of metadata and of a
 /// concatenation.
-pub const SHORT_MAX: usize = OPENING_MAX + 10 * LINE_MAX;
+pub const SHORT_MAX: usize = OPENING_MAX + 10 * LINE_MAX + FILE_MAX;
 
 /// The most bytes of a page with the fields of the steps. Metadata has at most 1,024 bytes, and a
 /// concatenation 2,048.
 pub const FIELDS_MAX: usize = SHORT_MAX + 4_000;
 
 /// The most bytes of the lines that tell the type and the length of a body.
-pub const CONTENT_MAX: usize = LINE_MAX;
+pub const CONTENT_MAX: usize = MEDIA_TYPE_MAX + LINE_MAX;
 
 /// The most bytes of what ends a head: the lines of the body, that of the connection and the empty line.
 pub const ENDING_MAX: usize = CONTENT_MAX + LINE_MAX;

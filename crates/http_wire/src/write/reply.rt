@@ -7,12 +7,14 @@ ghost use Rattle.tus_steps.specs.PlacedReply.{reply_in};
 
 use crate::framing::Framing;
 use crate::refusal::WireRefusal;
+use crate::write::file::{ANY_TYPE, file_type};
 use crate::write::own_fields::put_own_fields;
 use crate::write::page::{
     CONTENT_MAX, EARLIER_MAX, ENDING_MAX, FIELDS_MAX, HEAD_MAX, OPENING_MAX, Page,
 };
 use itoa::Buffer;
 use tus_steps::{Extent, PlacedReply, ReplyKind};
+use tus_text::{METADATA_MAX, Text};
 use upload_book::Moment;
 
 /// Puts the bytes of a reply at the moment of its message behind the earlier ones, but for the bytes of an upload, which
@@ -24,9 +26,11 @@ pub fn put_reply(page: &mut Page, reply: &PlacedReply, now: Moment, framing: Fra
 {
     let status = reply_status(reply);
     put_opening(page, status, now);
-    put_own_fields(page, reply);
+    let mut told = Text::empty();
+    let media = media_in(reply, &mut told);
+    put_own_fields(page, reply, media);
     let bare = framing.bare || status == 204;
-    put_ending(page, bare, framing.close, media_in(reply), body_len(reply));
+    put_ending(page, bare, framing.close, media, body_len(reply));
     if !bare {
         put_word_of(page, reply);
     }
@@ -146,13 +150,17 @@ fn content_status(extent: Extent) -> u16
 // The word of a GET that asks for a range of bytes of which the upload has none.
 const RANGE_WORD: &[u8] = b"range";
 
-// What the body of a reply is.
-fn media_in(reply: &PlacedReply) -> &'static [u8]
+// What the body of a reply is. A type that the metadata of an upload tells is decoded to `told`.
+fn media_in<'a>(reply: &PlacedReply, told: &'a mut Text<METADATA_MAX>) -> &'a [u8]
     ensures text { result.now ≡ media_in (reply_in reply.now) }
-    ensures len { length result.now ≤ 24 }
+    ensures len { length result.now ≤ 255 }
 {
     match &reply.kind {
-        ReplyKind::Content { .. } => b"application/octet-stream",
+        ReplyKind::Content {
+            extent: Extent::Plain,
+            ..
+        } => ANY_TYPE,
+        ReplyKind::Content { .. } => file_type(reply.row.metadata.as_slice(), told),
         ReplyKind::Unsatisfiable { .. } | ReplyKind::Refused { .. } => b"text/plain",
         _ => b"",
     }
@@ -194,7 +202,7 @@ fn put_word(page: &mut Page, word: &[u8])
 #[tactic(auto, unfolding(crate::specs::ReplyText::ending))]
 fn put_ending(page: &mut Page, bare: bool, close: bool, media: &[u8], len: u64)
     requires room { length page.old ≤ FIELDS_MAX }
-    requires media { length media.now ≤ 24 }
+    requires media { length media.now ≤ 255 }
     ensures text { page.new ≡ page.old ++ ending bare close media.now len }
     ensures len { length page.new ≤ length page.old + ENDING_MAX }
 {
@@ -208,7 +216,7 @@ fn put_ending(page: &mut Page, bare: bool, close: bool, media: &[u8], len: u64)
 #[tactic(auto, unfolding(crate::specs::ReplyText::content_fields))]
 fn put_content_fields(page: &mut Page, media: &[u8], len: u64)
     requires room { length page.old ≤ FIELDS_MAX }
-    requires media { length media.now ≤ 24 }
+    requires media { length media.now ≤ 255 }
     ensures text { page.new ≡ page.old ++ content_fields media.now len }
     ensures len { length page.new ≤ length page.old + CONTENT_MAX }
 {

@@ -19,19 +19,19 @@ const RANGE_2_4: &[u8] = b"Range: bytes=2-4\r\n";
 
 const WHOLE: &[u8] =
     b"HTTP/1.1 200 OK\r\nDate: Thu, 01 Jan 1970 00:16:40 GMT\r\nTus-Resumable: 1.0.0\r\n\
-Accept-Ranges: bytes\r\nContent-Type: application/octet-stream\r\nContent-Length: 10\r\n\r\n\
-abcdefghij";
+Accept-Ranges: bytes\r\nContent-Disposition: attachment\r\nX-Content-Type-Options: nosniff\r\n\
+Content-Type: application/octet-stream\r\nContent-Length: 10\r\n\r\nabcdefghij";
 
 const PARTIAL: &[u8] = b"HTTP/1.1 206 Partial Content\r\nDate: Thu, 01 Jan 1970 00:16:40 GMT\r\n\
 Tus-Resumable: 1.0.0\r\nAccept-Ranges: bytes\r\n";
 
 const BYTES_2_4: &[u8] =
-    b"Content-Range: bytes 2-4/10\r\nContent-Type: application/octet-stream\r\n\
-Content-Length: 3\r\n\r\ncde";
+    b"Content-Range: bytes 2-4/10\r\nContent-Disposition: attachment\r\n\
+X-Content-Type-Options: nosniff\r\nContent-Type: application/octet-stream\r\nContent-Length: 3\r\n\r\ncde";
 
 const BYTES_7_9: &[u8] =
-    b"Content-Range: bytes 7-9/10\r\nContent-Type: application/octet-stream\r\n\
-Content-Length: 3\r\n\r\nhij";
+    b"Content-Range: bytes 7-9/10\r\nContent-Disposition: attachment\r\n\
+X-Content-Type-Options: nosniff\r\nContent-Type: application/octet-stream\r\nContent-Length: 3\r\n\r\nhij";
 
 const NONE: &[u8] = b"HTTP/1.1 416 Range Not Satisfiable\r\nDate: Thu, 01 Jan 1970 00:16:40 GMT\r\n\
 Tus-Resumable: 1.0.0\r\nContent-Range: bytes */10\r\nContent-Type: text/plain\r\nContent-Length: 6\r\n\r\n\

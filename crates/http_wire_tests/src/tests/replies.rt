@@ -64,7 +64,7 @@ impl Replied {
                 replied
             }
             Reply::Head(row) => Replied::of_head(rt, alloc, row),
-            Reply::Content { bytes, extent } => {
+            Reply::Content { bytes, extent, .. } => {
                 let mut replied = Replied::of_bytes(rt, alloc, *extent);
                 replied.media = "application/octet-stream";
                 replied.body = Vec::from_slice(alloc, bytes.as_slice()).expect(rt, "memory");

@@ -38,7 +38,7 @@ pub(crate) fn told_by(reply: &Reply) -> Told<'_> {
             let (metadata, concat) = (row.metadata.as_slice(), row.concat.as_slice());
             Told::Row(row.offset, row.declared, metadata, concat)
         }
-        Reply::Content { bytes, extent } => told_bytes(bytes.as_slice(), *extent),
+        Reply::Content { bytes, extent, .. } => told_bytes(bytes.as_slice(), *extent),
         Reply::Unsatisfiable { len } => Told::NoneOf(*len),
         Reply::Patched { offset, expires } => Told::Patched(*offset, secs(expires)),
         Reply::Deleted => Told::Deleted,
