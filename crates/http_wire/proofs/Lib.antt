@@ -2,6 +2,7 @@ pub mod AheadLemmas
 pub mod CarriedLemmas
 pub mod ConversationLemmas
 pub mod DrivingLemmas
+pub mod FileLemmas
 pub mod FindLemmas
 pub mod FinishLemmas
 pub mod NextMessageLemmas

@@ -10,6 +10,14 @@ pub path_joined : (page name files tenant slash id end : List ℕ)
     → ((((page ++ (name ++ files)) ++ tenant) ++ slash) ++ id) ++ end ≡ page ++ ((name ++ (((files ++ tenant) ++ slash) ++ id)) ++ end)
 path_joined page name files tenant slash id end = simp append_assoc
 
+-- the pieces of a file's name between two others
+pub name_joined : (page front name end : List ℕ) → ((page ++ front) ++ name) ++ end ≡ page ++ ((front ++ name) ++ end)
+name_joined page front name end = simp append_assoc
+
+-- the pieces of the line of a file
+pub file_joined : (page name kind told end : List ℕ) → (((page ++ name) ++ kind) ++ told) ++ end ≡ page ++ ((name ++ (kind ++ told)) ++ end)
+file_joined page name kind told end = simp append_assoc
+
 -- the pieces of the line of a range, and of one that has no bytes
 pub range_joined : (page name unit first hyphen last slash len end : List ℕ)
     → ((((((page ++ (name ++ unit)) ++ first) ++ hyphen) ++ last) ++ slash) ++ len) ++ end ≡ page ++ ((name ++ (((((unit ++ first) ++ hyphen) ++ last) ++ slash) ++ len)) ++ end)

@@ -21,19 +21,29 @@ type_or_any (Some text) = if is_media_type text then text else any_type
 abbrev pub file_type : List ℕ → List ℕ
 file_type metadata = type_or_any (value_under (codes "filetype") metadata)
 
--- the types that a browser shows and of which none carries a script
-abbrev pub shown_types : List (List ℕ)
-shown_types =
-    codes "text/plain"
-    ∷ codes "image/avif" ∷ codes "image/bmp" ∷ codes "image/gif" ∷ codes "image/jpeg" ∷ codes "image/png" ∷ codes "image/webp"
-    ∷ codes "audio/aac" ∷ codes "audio/flac" ∷ codes "audio/mp4" ∷ codes "audio/mpeg" ∷ codes "audio/ogg" ∷ codes "audio/wav"
-    ∷ codes "audio/webm"
-    ∷ codes "video/mp4" ∷ codes "video/ogg" ∷ codes "video/webm"
-    ∷ []
+-- the types that a browser shows and of which none carries a script: images,
+abbrev pub shown_images : List (List ℕ)
+shown_images = codes "image/avif" ∷ codes "image/bmp" ∷ codes "image/gif" ∷ codes "image/jpeg" ∷ codes "image/png" ∷ codes "image/webp" ∷ []
 
--- a file of such a type may be shown in a browser's window
+-- sounds,
+abbrev pub shown_sounds : List (List ℕ)
+shown_sounds =
+    codes "audio/aac" ∷ codes "audio/flac" ∷ codes "audio/mp4" ∷ codes "audio/mpeg" ∷ codes "audio/ogg" ∷ codes "audio/wav"
+    ∷ codes "audio/webm" ∷ []
+
+-- films,
+abbrev pub shown_films : List (List ℕ)
+shown_films = codes "video/mp4" ∷ codes "video/ogg" ∷ codes "video/webm" ∷ []
+
+-- by their names in any letter case
+abbrev pub is_one_of : List (List ℕ) → List ℕ → Bool
+is_one_of names name = list_any (str_eq_ignore_ascii_case name) names
+
+-- and plain text: a file of such a type may be shown in a browser's window
 abbrev pub is_shown : List ℕ → Bool
-is_shown media = list_any (str_eq_ignore_ascii_case (type_name media)) shown_types
+is_shown media =
+    let name = type_name media in
+    str_eq_ignore_ascii_case name (codes "text/plain") || is_one_of shown_images name || is_one_of shown_sounds name || is_one_of shown_films name
 
 -- disposition-type (RFC 6266, section 4.2): shown, or saved as a file
 abbrev pub disposition_type : List ℕ → List ℕ
@@ -47,11 +57,14 @@ is_quotable b = nat_le 32 b && nat_le b 126 && not (b == 34) && not (b == 37) &&
 abbrev pub is_unreserved : ℕ → Bool
 is_unreserved b = is_ascii_alphanumeric b || b == byte "-" || b == byte "." || b == byte "_" || b == byte "~"
 
+abbrev pub quote : List ℕ
+quote = 34 ∷ []
+
 -- filename-parm (RFC 6266, section 4.1): within quotes, or else as an extended value (RFC 8187, section 3.2)
 abbrev pub name_parameter : List ℕ → List ℕ
 name_parameter name =
     if list_all is_quotable name
-    then codes "; filename=" ++ 34 ∷ name ++ 34 ∷ []
+    then codes "; filename=" ++ quote ++ name ++ quote
     else codes "; filename*=UTF-8''" ++ escaped_unless is_unreserved name
 
 -- a name of a file: 1 to 255 bytes of UTF-8

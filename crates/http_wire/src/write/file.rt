@@ -1,6 +1,7 @@
 //! What a reply to a GET tells of the file that an upload is, by its metadata.
 ghost use Rattle.std.specs.Prelude.{◌≡◌, ◌+◌, ◌≤◌, ◌++◌, codes, length};
-ghost use Rattle.http_wire.specs.File.{disposition, disposition_type, file_type, is_file_name, is_quotable, is_shown, is_unreserved, name_parameter, name_told};
+ghost use Rattle.std.specs.List.{list_all};
+ghost use Rattle.http_wire.specs.File.{disposition, disposition_type, file_type, is_file_name, is_one_of, is_quotable, is_shown, is_unreserved, shown_films, shown_images, shown_sounds, name_parameter, name_told};
 ghost use Rattle.http_wire.specs.ReplyText.{line};
 ghost use Rattle.tus_text.specs.Escape.{escaped_unless};
 ghost use Rattle.tus_text.specs.Pair.{value_under};
@@ -12,33 +13,17 @@ use tus_text::{METADATA_MAX, Text, is_media_type, type_name, value_under};
 /// The type of a file of which none is told (RFC 9110, section 8.3).
 pub const ANY_TYPE: &[u8] = b"application/octet-stream";
 
-// The types that a browser shows and of which none carries a script.
-const SHOWN_TYPES: [&[u8]; 17] = [
-    b"text/plain",
-    b"image/avif",
-    b"image/bmp",
-    b"image/gif",
-    b"image/jpeg",
-    b"image/png",
-    b"image/webp",
-    b"audio/aac",
-    b"audio/flac",
-    b"audio/mp4",
-    b"audio/mpeg",
-    b"audio/ogg",
-    b"audio/wav",
-    b"audio/webm",
-    b"video/mp4",
-    b"video/ogg",
-    b"video/webm",
-];
-
 // The most bytes of the name of a file.
 const FILE_NAME_MAX: usize = 255;
 
 // What is escaped of ASCII in an extended value: all but what is unreserved (RFC 3986, section 2.3).
-const ESCAPED: AsciiSet =
-    ascii_set!(NON_ALPHANUMERIC.remove(b'-').remove(b'.').remove(b'_').remove(b'~'));
+const ESCAPED: AsciiSet = ascii_set!(
+    NON_ALPHANUMERIC
+        .remove(b'-')
+        .remove(b'.')
+        .remove(b'_')
+        .remove(b'~')
+);
 
 /// The type of the file of this metadata: what it has under `filetype`, where that is a media type, else [`ANY_TYPE`]. The
 /// metadata's text is decoded to `told`.
@@ -87,9 +72,41 @@ fn is_shown(media: &[u8]) -> bool
     ensures { result ≡ is_shown media.now }
 {
     let name = type_name(media);
-    SHOWN_TYPES
-        .iter()
-        .any(|shown| name.eq_ignore_ascii_case(shown))
+    name.eq_ignore_ascii_case(b"text/plain")
+        || is_shown_image(name)
+        || is_shown_sound(name)
+        || is_shown_film(name)
+}
+
+fn is_shown_image(name: &[u8]) -> bool
+    ensures { result ≡ is_one_of shown_images name.now }
+{
+    name.eq_ignore_ascii_case(b"image/avif")
+        || name.eq_ignore_ascii_case(b"image/bmp")
+        || name.eq_ignore_ascii_case(b"image/gif")
+        || name.eq_ignore_ascii_case(b"image/jpeg")
+        || name.eq_ignore_ascii_case(b"image/png")
+        || name.eq_ignore_ascii_case(b"image/webp")
+}
+
+fn is_shown_sound(name: &[u8]) -> bool
+    ensures { result ≡ is_one_of shown_sounds name.now }
+{
+    name.eq_ignore_ascii_case(b"audio/aac")
+        || name.eq_ignore_ascii_case(b"audio/flac")
+        || name.eq_ignore_ascii_case(b"audio/mp4")
+        || name.eq_ignore_ascii_case(b"audio/mpeg")
+        || name.eq_ignore_ascii_case(b"audio/ogg")
+        || name.eq_ignore_ascii_case(b"audio/wav")
+        || name.eq_ignore_ascii_case(b"audio/webm")
+}
+
+fn is_shown_film(name: &[u8]) -> bool
+    ensures { result ≡ is_one_of shown_films name.now }
+{
+    name.eq_ignore_ascii_case(b"video/mp4")
+        || name.eq_ignore_ascii_case(b"video/ogg")
+        || name.eq_ignore_ascii_case(b"video/webm")
 }
 
 // The parameter of the name that the metadata tells, where it is one.
@@ -110,7 +127,7 @@ fn put_name(page: &mut Page, metadata: &[u8])
 fn is_file_name(name: &[u8]) -> bool
     ensures { result ≡ is_file_name name.now }
 {
-    !name.is_empty() && name.len() <= FILE_NAME_MAX && core::str::from_utf8(name).is_ok()
+    !name.is_empty() && name.len() <= FILE_NAME_MAX && std::str::from_utf8(name).is_ok()
 }
 
 // The parameter that tells a name.
@@ -120,7 +137,7 @@ fn put_name_parameter(page: &mut Page, name: &[u8])
     ensures text { page.new ≡ page.old ++ name_parameter name.now }
     ensures len { length page.new ≤ length page.old + 784 }
 {
-    if name.iter().all(|byte| is_quotable(*byte)) {
+    if are_quotable(name) {
         page.put(b"; filename=\"");
         page.put(name);
         page.put(b"\"");
@@ -128,6 +145,13 @@ fn put_name_parameter(page: &mut Page, name: &[u8])
         page.put(b"; filename*=UTF-8''");
         put_escaped(page, name);
     }
+}
+
+// Whether no byte of a name needs an escape within quotes.
+fn are_quotable(name: &[u8]) -> bool
+    ensures { result ≡ list_all is_quotable name.now }
+{
+    name.iter().all(|byte| is_quotable(*byte))
 }
 
 // Whether `byte` needs no escape within quotes.

@@ -23,10 +23,11 @@ pub fn put_own_fields(page: &mut Page, reply: &PlacedReply, media: &[u8])
     page.put_text_line(b"Tus-Checksum-Algorithm", algorithms_in(reply));
     page.put_text_line(b"Allow", allowed_in(reply));
     put_location(page, reply);
-    page.put_line_if(tells_ranges(reply), b"Accept-Ranges", b"bytes");
+    let told = tells_ranges(reply);
+    page.put_line_if(told, b"Accept-Ranges", b"bytes");
     put_content_range(page, reply);
     put_disposition_of(page, reply, media);
-    put_sniff_line_if(page, tells_ranges(reply));
+    put_sniff_line_if(page, told);
     page.put_number_line(b"Upload-Offset", offset_in(reply));
     put_length(page, reply);
     page.put_text_line(b"Upload-Metadata", metadata_in(reply));
@@ -212,7 +213,6 @@ fn put_none_of(page: &mut Page, len: u64)
 }
 
 // What a browser is to do with a body of this type, where that is told.
-#[tactic(auto, unfolding(crate::specs::ReplyText::text_line))]
 fn put_disposition_of(page: &mut Page, reply: &PlacedReply, media: &[u8])
     requires { length page.old + FILE_MAX ≤ SHORT_MAX }
     ensures text { page.new ≡ page.old ++ text_line (codes "Content-Disposition") (disposition_in media.now (reply_in reply.now)) }

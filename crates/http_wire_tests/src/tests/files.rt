@@ -6,7 +6,8 @@ use http_wire::{Buffers, Connection, Ended, RequestLimits};
 use std::alloc::Global;
 use std::process::Abort;
 
-const CREATION: &[u8] = b"POST /files/acme HTTP/1.1\r\nHost: x\r\nTus-Resumable: 1.0.0\r\nUpload-Length: 0\r\nUpload-Metadata: ";
+const CREATION: &[u8] =
+    b"POST /files/acme HTTP/1.1\r\nHost: x\r\nTus-Resumable: 1.0.0\r\nUpload-Length: 0\r\nUpload-Metadata: ";
 
 const GET: &[u8] = b"\r\n\r\nGET /files/acme/1 HTTP/1.1\r\nHost: x\r\n\r\n";
 
@@ -27,28 +28,64 @@ const ANY_TYPE: &[u8] = b"application/octet-stream";
 // Metadata, and the disposition and the type that it leads to.
 static FILES: [(&[u8], &[u8], &[u8]); 13] = [
     (b"key", b"attachment", ANY_TYPE),
-    (b"filename YS5tcDQ=,filetype dmlkZW8vbXA0", b"inline; filename=\"a.mp4\"", b"video/mp4"),
+    (
+        b"filename YS5tcDQ=,filetype dmlkZW8vbXA0",
+        b"inline; filename=\"a.mp4\"",
+        b"video/mp4",
+    ),
     // of two keys that differ in letter case, and of text/html
-    (b"Filetype dmlkZW8vbXA0,filetype dGV4dC9odG1s", b"attachment", b"text/html"),
+    (
+        b"Filetype dmlkZW8vbXA0,filetype dGV4dC9odG1s",
+        b"attachment",
+        b"text/html",
+    ),
     // Text/Plain; charset=utf-8
-    (b" filetype VGV4dC9QbGFpbjsgY2hhcnNldD11dGYtOA== ", b"inline", b"Text/Plain; charset=utf-8"),
+    (
+        b" filetype VGV4dC9QbGFpbjsgY2hhcnNldD11dGYtOA== ",
+        b"inline",
+        b"Text/Plain; charset=utf-8",
+    ),
     // image/svg+xml, which may carry a script
-    (b"filetype aW1hZ2Uvc3ZnK3htbA==", b"attachment", b"image/svg+xml"),
+    (
+        b"filetype aW1hZ2Uvc3ZnK3htbA==",
+        b"attachment",
+        b"image/svg+xml",
+    ),
     // text/plain, with another field in its next line
-    (b"filetype dGV4dC9wbGFpbg0KWDogeQ==", b"attachment", ANY_TYPE),
+    (
+        b"filetype dGV4dC9wbGFpbg0KWDogeQ==",
+        b"attachment",
+        ANY_TYPE,
+    ),
     // text, which has no subtype
     (b"filetype dGV4dA==", b"attachment", ANY_TYPE),
     (b"filename,filetype", b"attachment", ANY_TYPE),
     // a letter that is not ASCII, and a space
-    (b"filename w7wgYi50eHQ=", b"attachment; filename*=UTF-8''%C3%BC%20b.txt", ANY_TYPE),
+    (
+        b"filename w7wgYi50eHQ=",
+        b"attachment; filename*=UTF-8''%C3%BC%20b.txt",
+        ANY_TYPE,
+    ),
     // a quote and a percent sign
-    (b"filename YSJiJS50eHQ=", b"attachment; filename*=UTF-8''a%22b%25.txt", ANY_TYPE),
+    (
+        b"filename YSJiJS50eHQ=",
+        b"attachment; filename*=UTF-8''a%22b%25.txt",
+        ANY_TYPE,
+    ),
     // a tab
-    (b"filename YQli", b"attachment; filename*=UTF-8''a%09b", ANY_TYPE),
+    (
+        b"filename YQli",
+        b"attachment; filename*=UTF-8''a%09b",
+        ANY_TYPE,
+    ),
     // no UTF-8
     (b"filename /y50eHQ=", b"attachment", ANY_TYPE),
     // a name with a folder, a space and a backslash at its end
-    (b"filename Li4vYSBcXA==", b"attachment; filename*=UTF-8''..%2Fa%20%5C%5C", ANY_TYPE),
+    (
+        b"filename Li4vYSBcXA==",
+        b"attachment; filename*=UTF-8''..%2Fa%20%5C%5C",
+        ANY_TYPE,
+    ),
 ];
 
 /// Has an upload created with this metadata, and then asked for by a GET.

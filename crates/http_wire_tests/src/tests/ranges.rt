@@ -25,12 +25,10 @@ Content-Type: application/octet-stream\r\nContent-Length: 10\r\n\r\nabcdefghij";
 const PARTIAL: &[u8] = b"HTTP/1.1 206 Partial Content\r\nDate: Thu, 01 Jan 1970 00:16:40 GMT\r\n\
 Tus-Resumable: 1.0.0\r\nAccept-Ranges: bytes\r\n";
 
-const BYTES_2_4: &[u8] =
-    b"Content-Range: bytes 2-4/10\r\nContent-Disposition: attachment\r\n\
+const BYTES_2_4: &[u8] = b"Content-Range: bytes 2-4/10\r\nContent-Disposition: attachment\r\n\
 X-Content-Type-Options: nosniff\r\nContent-Type: application/octet-stream\r\nContent-Length: 3\r\n\r\ncde";
 
-const BYTES_7_9: &[u8] =
-    b"Content-Range: bytes 7-9/10\r\nContent-Disposition: attachment\r\n\
+const BYTES_7_9: &[u8] = b"Content-Range: bytes 7-9/10\r\nContent-Disposition: attachment\r\n\
 X-Content-Type-Options: nosniff\r\nContent-Type: application/octet-stream\r\nContent-Length: 3\r\n\r\nhij";
 
 const NONE: &[u8] = b"HTTP/1.1 416 Range Not Satisfiable\r\nDate: Thu, 01 Jan 1970 00:16:40 GMT\r\n\

@@ -13,4 +13,4 @@ returns-clause-text c =
     let length = joined _ _ _ _ _ (joined _ _ _ _ _ file c.put_number_line-2.ensures.text) c.put_length.ensures.text in
     let texts = joined _ _ _ _ _ (joined _ _ _ _ _ length c.put_text_line-4.ensures.text) c.put_text_line-5.ensures.text in
     let cache = joined _ _ _ _ _ (joined _ _ _ _ _ texts c.put_moment_line.ensures.text) c.put_cache_line_if.ensures.text in
-    rw (← c.tells_version.ensures, ← c.extensions_in.ensures.text, ← c.max_size_in.ensures, ← c.algorithms_in.ensures.text, ← c.allowed_in.ensures.text, ← c.tells_ranges.ensures, ← c.tells_ranges-2.ensures, ← c.requires.media, ← c.offset_in.ensures, ← c.metadata_in.ensures.text, ← c.concat_in.ensures.text, ← c.expires_in.ensures, ← c.is_uncached.ensures) cache
+    rw (← c.tells_version.ensures, ← c.extensions_in.ensures.text, ← c.max_size_in.ensures, ← c.algorithms_in.ensures.text, ← c.allowed_in.ensures.text, ← c.tells_ranges-told.ensures, ← c.requires.media, ← c.offset_in.ensures, ← c.metadata_in.ensures.text, ← c.concat_in.ensures.text, ← c.expires_in.ensures, ← c.is_uncached.ensures) cache
