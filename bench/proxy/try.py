@@ -18,6 +18,7 @@ from parts import Nginx, Proxies, Recorder, Server, all_replies, ask, free_port,
 
 TUS_FIELDS = ['Location', 'Tus-Resumable', 'Tus-Version', 'Tus-Extension', 'Tus-Max-Size', 'Tus-Checksum-Algorithm', 'Upload-Offset',
               'Upload-Length', 'Upload-Defer-Length', 'Upload-Metadata', 'Upload-Concat', 'Upload-Expires']
+FILE_FIELDS = ['Content-Disposition', 'Content-Range']
 OTHER_ORIGIN = 'Origin: https://app.example'
 failures = []
 
@@ -92,7 +93,7 @@ def pages(nginx, recorder):
           and 'access-control-allow-origin' not in ask(nginx.connect, message('HEAD', path, 'Origin: https://stranger.example')).fields)
     reply = ask(nginx.connect, message('HEAD', path, OTHER_ORIGIN))
     exposed = [name.strip() for name in reply.fields['access-control-expose-headers'].split(',')]
-    check("CORS: all of tus's fields are exposed, in errors too", sorted(exposed) == sorted(TUS_FIELDS)
+    check("CORS: tus's fields and those of a file are exposed, in errors too", sorted(exposed) == sorted(TUS_FIELDS + FILE_FIELDS)
           and 'access-control-allow-origin' in ask(nginx.connect, message('HEAD', '/files/acme/999', OTHER_ORIGIN)).fields)
     reply = ask(nginx.connect, message('OPTIONS', '/files/acme', OTHER_ORIGIN))
     told = {name for name in map(str.lower, TUS_FIELDS) if name in reply.fields}
