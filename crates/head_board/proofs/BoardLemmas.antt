@@ -1,8 +1,8 @@
 -- What the writer's calls leave of a board.
-use Rattle.std.proofs.Common.{◌≡◌, ℕ, true, List, [], ◌∷◌, ◌++◌, fold, length, map, Some, Result, Ok, Err, refl, sym, ap, ap₂, subst, ◌∙◌}
+use Rattle.std.proofs.Common.{◌≡◌, ℕ, Bool, true, false, List, [], ◌∷◌, ◌++◌, fold, length, map, Some, Result, Ok, Err, refl, sym, ap, ap₂, subst, ◌∙◌}
 use Rattle.std.specs.Option.{option_map_or}
 use Rattle.std.proofs.lemmas.List.Sums.{fold-append}
-use Rattle.std.specs.Result.{IsOk, MatchResult}
+use Rattle.std.specs.Result.{IsOk, MatchResult, is_ok}
 use Rattle.left_right.specs.Register.{TurnsAt}
 use Rattle.upload_book.specs.Change.{CanBeMade}
 use Rattle.upload_book.specs.declared.board_line.Accounts.{Accounts}
@@ -22,7 +22,7 @@ use Rattle.head_board.specs.declared.board_copy.Note.TheVariants.{Adds}
 use Rattle.head_board.specs.declared.board_copy.BoardCopy.{BoardCopy}
 use Rattle.head_board.specs.declared.board_copy.View.{View}
 use Rattle.head_board.specs.declared.coming_texts.ComingTexts.{ComingTexts}
-use Rattle.head_board.specs.inside.BoardRule.{IsAtRest}
+use Rattle.head_board.specs.inside.BoardRule.{IsAtRest, IsBegun}
 use Rattle.head_board.specs.inside.EventLog.{LogPrefix}
 use Rattle.head_board.specs.Events.{AllHappen, Happens, HaveHappened, IsNoteOfEvent, book_at, change_event}
 use Rattle.head_board.specs.Room.{heads_noted, heads_with}
@@ -37,6 +37,11 @@ pub at_ok : {X E : Type 0} (r : Result X E) (P : Type 0) (Q : E → Type 0) → 
 at_ok (Ok x) P Q ok m = m
 at_ok (Err e) P Q ok m = absurd (cc (ok))
 
+-- and what holds where it failed, and it did
+pub at_err : {X E : Type 0} (r : Result X E) (P : X → Type 0) (Q : Type 0) → is_ok r ≡ false → MatchResult r P (λ (e : E). Q) → Q
+at_err (Ok x) P Q failed m = absurd (cc (failed))
+at_err (Err e) P Q failed m = m
+
 -- what is noted after something else
 pub noted-more : (s : BoardCopy) (pending more : List Note) (note : Note) → more ≡ pending ++ note ∷ [] → fold noted s more ≡ noted (fold noted s pending) note
 noted-more s pending more note is = ap (fold noted s) is ∙ fold-append noted s pending (note ∷ [])
@@ -45,6 +50,11 @@ noted-more s pending more note is = ap (fold noted s) is ∙ fold-append noted s
 pub begins-note : (seat : ℕ) (v : View) (s next same : BoardCopy) → same ≡ s → next ≡ same → TurnsAt IsConsistent seat v s next (λ v x y w. w ≡ view_of y)
 begins-note seat v s next same one is =
     subst (λ (next : BoardCopy). TurnsAt IsConsistent seat v s next (λ v x y w. w ≡ view_of y)) (sym (is ∙ one)) (begins seat v s)
+
+-- what was not done says nothing
+pub begun-if : (done : Bool) (first shown : BoardCopy) (place : View) (left : List Note) → (done ≡ true → (shown ≡ first) × IsAtRest shown place left) → IsBegun done first shown place left
+begun-if true first shown place left begun = begun refl
+begun-if false first shown place left begun = tt
 
 -- and then the writer knows which board it is
 pub begun-rest : (s shown same : BoardCopy) (v : View) (left : List Note) → IsCurrent s → same ≡ s → shown ≡ same → left ≡ [] → v ≡ view_of shown → (shown ≡ s) × IsAtRest shown v left
@@ -58,6 +68,11 @@ begun-rest s shown same v left current one is none knows =
         nothing = none;
       },
     )
+
+-- a copy that is the same, and has the same notes, has the same next one
+pub next-same : (s t : BoardCopy) (pending notes : List Note) → s ≡ t → pending ≡ notes → IsNext t (fold noted t notes) → IsNext s (fold noted s pending)
+next-same s t pending notes same is next =
+    subst (λ (s : BoardCopy). IsNext s (fold noted s pending)) (sym same) (subst (λ (pending : List Note). IsNext t (fold noted t pending)) (sym is) next)
 
 -- the next copy is shown
 pub shows-next : (seat : ℕ) (v : View) (s next : BoardCopy) (pending : List Note) → IsNext s (fold noted s pending) → next ≡ fold noted s pending → TurnsAt IsConsistent seat v s next (λ v x y w. w ≡ v)

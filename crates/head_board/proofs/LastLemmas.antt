@@ -13,7 +13,7 @@ use Rattle.upload_book.specs.declared.board_line.HeadChange.TheVariants as head
 use Rattle.upload_book.specs.declared.board_line.HeadChange.TheVariants.{Put}
 use Rattle.upload_book.specs.declared.head_note.Growth.{Growth}
 use Rattle.upload_book.specs.declared.head_note.NotedChange.{NotedChange}
-use Rattle.upload_book.specs.declared.head_note.NotedChange.TheVariants.{Created, Grown, Gone, Swept, Next, Totals}
+use Rattle.upload_book.specs.declared.head_note.NotedChange.TheVariants.{Created, Shared, Grown, Gone, Swept, Next, Totals}
 use Rattle.upload_book.specs.declared.head_row.HeadRow.{HeadRow}
 use Rattle.upload_book.specs.declared.head_row.Name.{Name}
 use Rattle.upload_book.specs.declared.refusal.Refusal.{Refusal}
@@ -135,6 +135,8 @@ pub note-known : (h : Heads) (slots : List LogPrefix) (change : NotedChange) (ac
     → line_told h (record { change = change; accounts = accounts }) ≡ Some line → IsKnown h slots after (last_of (last_after slots h change after) name.id) line name
 note-known h slots (Created tenant row) accounts after line name all told =
     put-known h slots (record { tenant = tenant; id = (head_part_at h tenant).next }) row after accounts line name all (cc (told))
+note-known h slots (Shared tenant row) accounts after line name all told =
+    put-known h slots (record { tenant = tenant; id = (head_part_at h tenant).next }) row after accounts line name all (cc (told))
 note-known h slots (Grown grown growth) accounts after line name all told =
     let put = grown-row grown growth accounts (kept_in (head_part_at h grown.tenant).uploads grown.id) line told in
     put-known h slots grown put.0 after accounts line name all put.1
@@ -152,6 +154,7 @@ note-known h slots Totals accounts after line name all told =
 -- and there are as many slots after it
 pub note-slots : (h : Heads) (slots : List LogPrefix) (change : NotedChange) (after : LogPrefix) → length slots ≡ 256 → length (last_after slots h change after) ≡ 256
 note-slots h slots (Created tenant row) after all = length-set slots ((head_part_at h tenant).next % 256) after ∙ all
+note-slots h slots (Shared tenant row) after all = length-set slots ((head_part_at h tenant).next % 256) after ∙ all
 note-slots h slots (Grown name growth) after all = length-set slots (name.id % 256) after ∙ all
 note-slots h slots (Gone name) after all = length-set slots (name.id % 256) after ∙ all
 note-slots h slots (Swept now) after all = length-replicate 256 after

@@ -1,4 +1,5 @@
 pub mod RowLemmas
+pub mod ListedLemmas
 pub mod TableLemmas
 pub mod BoundLemmas
 pub mod LineLemmas

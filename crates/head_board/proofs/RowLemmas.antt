@@ -3,6 +3,7 @@ use Rattle.std.proofs.Common.{◌≡◌, ℕ, zero, suc, ◌+◌, ◌<◌, ◌�
 use Rattle.std.specs.List.{filter, position, remove}
 use Rattle.std.specs.List.Sorted.{IsStrictlyIncreasing}
 use Rattle.std.proofs.lemmas.Bool.Decides.{eqb_tells, nat_tests}
+use Rattle.std.proofs.lemmas.List.{get_or_default}
 use Rattle.std.proofs.lemmas.List.Edits.{get_or-remove_above, length-remove}
 use Rattle.std.proofs.lemmas.List.Elements.{All-get_or}
 use Rattle.std.proofs.lemmas.List.Quantifiers.{position-Some}
@@ -17,11 +18,15 @@ use Rattle.upload_book.specs.inside.Ids.{AreBelow}
 use Rattle.head_board.specs.inside.Rows.{Rows, row_ids}
 
 -- no row, where one is only needed for a place past the end
-no_row : Entry HeadRow
+abbrev pub no_row : Entry HeadRow
 no_row = record {
   id = 0;
   kept = record { kind = Plain; offset = 0; declared = None; metadata = []; concat = []; expires = None };
 }
+
+-- a row stands at its place, whatever would stand past the end
+pub read-itself : (rows : List (Entry HeadRow)) (place : ℕ) → place < length rows → get_or rows place no_row ≡ get_or rows place (get_or rows place no_row)
+read-itself rows place within = get_or_default rows place no_row (get_or rows place no_row) within
 
 -- a row changes under its id
 pub is_set : (rows : List (Entry HeadRow)) (id place : ℕ) (e after : Entry HeadRow) (row : HeadRow) → IsStrictlyIncreasing (row_ids rows) → position (has_id id) rows ≡ Some place → e ≡ get_or rows place e → after ≡ record e { kept = row } → set rows place after ≡ with_kept rows id row

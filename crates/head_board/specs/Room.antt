@@ -1,10 +1,12 @@
 -- Which changes a table of heads has room for, and what a line or a note makes of it.
-use Rattle.std.specs.Prelude.{ℕ, Bool, true, not, ◌==◌, ◌&&◌, ◌||◌, length, nat_le, nat_lt, if◌then◌else◌}
+use Rattle.std.specs.Prelude.{ℕ, ◌<◌, Bool, true, not, ◌==◌, ◌&&◌, ◌||◌, length, nat_le, nat_lt, if◌then◌else◌}
 use Rattle.std.specs.Option.{option_map_or}
 use Rattle.upload_book.specs.declared.board_line.BoardLine.{BoardLine}
 use Rattle.upload_book.specs.declared.board_line.HeadChange.{HeadChange}
 use Rattle.upload_book.specs.declared.board_line.HeadChange.TheVariants.{Put, Gone, Swept, Next, Totals}
 use Rattle.upload_book.specs.declared.head_note.HeadNote.{HeadNote}
+use Rattle.upload_book.specs.declared.head_note.NotedChange.{NotedChange}
+use Rattle.upload_book.specs.declared.head_note.NotedChange.TheVariants.{Created, Shared}
 use Rattle.upload_book.specs.HeadNotes.{line_told}
 use Rattle.upload_book.specs.Heads.{Heads, HeadPart, apply_line, head_part_at}
 
@@ -24,6 +26,12 @@ has_room h (Gone name) = true
 has_room h (Swept now) = true
 has_room h (Next name) = nat_le (length h.tenants) name.tenant || nat_le (head_part_at h name.tenant).next name.id
 has_room h Totals = true
+
+-- A change may find no memory where it brings the row of a new upload, and there is no box for that.
+abbrev pub MayLackRow : ℕ → NotedChange → Type 0
+MayLackRow uploads (Created tenant row) = 64 < uploads
+MayLackRow uploads (Shared tenant row) = 64 < uploads
+MayLackRow uploads change = ⊥
 
 -- the heads after a line, which changes nothing where there is no room for it
 abbrev pub heads_with : Heads → BoardLine → Heads

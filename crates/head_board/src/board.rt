@@ -23,7 +23,7 @@ use std::alloc::{AllocError, Global};
 use std::marker::Model;
 use std::sync::Wait;
 use tus_text::Text;
-use upload_book::{HeadNote, HeadRow, NotedChange, RowRef, Settings};
+use upload_book::{HeadNote, HeadRow, NotedChange, RowRef, Settings, SharedRow, SharedRowRef};
 
 /// The heads of a book as they are shown to readers, who need no lock. This is the writer's side. A contract sees the
 /// settings of the book, which log its events are in, and all events that were shown.
@@ -98,9 +98,10 @@ impl<W: Wait + Drop> Board<W> {
     /// it changes of the heads: who reads from now on sees it. It waits for readers that still read the older copy.
     ///
     /// Nothing is shown in part, and no memory is taken: room for the notes of two events was made by [`Board::new`], and
-    /// there are never more. Were a note refused all the same, it would wait until there is room for it, and it waits until
-    /// the log has no more events than the board. No run waits for either, but no contract of the log or of the list of
-    /// notes tells that.
+    /// there are never more; and where there is no box for the texts of a new upload, its note shares them. Were a note or one
+    /// more owner of these texts refused all the same, it would wait until there is room for it, and it waits until the log has
+    /// no more events than the board. No run waits for any of it, but no contract of the log, of the list of notes or of
+    /// `Arc` tells that.
     pub fn show(&mut self, coming: &Coming, note: &HeadNote)
         requires asked { CanBeMade (length self.old.settings.tenants) (event_of coming.now).change }
         requires note { IsNoteOfEvent (book_at self.old.settings self.old.events) (event_of coming.now) note.now }
@@ -205,8 +206,7 @@ fn shown_first<R: Wait>(rt: &R, mut writer: BoardWriter) -> (BoardWriter, bool)
         return (writer, false);
     }
     let (writer, published) = writer.publish_as::<Begins, R>(rt);
-    prove!(published.is_ok());
-    (writer, true)
+    (writer, published.is_ok())
 }
 
 // Adds notes of nothing to those that are to be shown, as many as an event has at most. Says whether it added all.
@@ -263,12 +263,25 @@ fn note_change<R: Wait>(rt: &R, writer: &mut BoardWriter, change: &NotedChange) 
             note_texts(rt, writer, row);
             SmallChange::Created(*tenant, row.kind(), row.growth())
         }
+        NotedChange::Shared(tenant, row) => SmallChange::Shared(*tenant, owned(rt, row)),
         NotedChange::Grown(name, growth) => SmallChange::Grown(*name, *growth),
         NotedChange::Gone(name) => SmallChange::Gone(*name),
         NotedChange::Swept(now) => SmallChange::Swept(*now),
         NotedChange::Next(name) => SmallChange::Next(*name),
         NotedChange::Totals => SmallChange::Totals,
     }
+}
+
+// The row of a new upload as one more owner of its texts, as soon as there may be one.
+fn owned<R: Wait>(rt: &R, row: &SharedRowRef) -> SharedRow
+    ensures { result ≡ row.now }
+{
+    for _ in rt.forever() {
+        if let Ok(owned) = row.owned() {
+            return owned;
+        }
+    }
+    unreachable!()
 }
 
 // Tells both copies the texts of a new upload.
@@ -315,15 +328,20 @@ fn note_down<R: Wait>(rt: &R, writer: &mut BoardWriter, mut note: Note)
     unreachable!()
 }
 
-// Shows the copy with what was noted.
-fn published<R: Wait>(rt: &R, writer: BoardWriter) -> BoardWriter
+// Shows the copy with what was noted, as soon as both copies could do it.
+fn published<R: Wait>(rt: &R, mut writer: BoardWriter) -> BoardWriter
     requires knows { (known_at writer.desk.place).knows ≡ true }
     requires fits { Fits (known_at writer.desk.place) writer.desk.shown.value }
     requires next { IsNext writer.desk.shown.value (fold noted writer.desk.shown.value (drop writer.behind writer.log.items)) }
     ensures rest { IsAtRest result.desk.shown.value (known_at result.desk.place) (drop result.behind result.log.items) }
     ensures value { result.desk.shown.value ≡ fold noted writer.desk.shown.value (drop writer.behind writer.log.items) }
 {
-    let (writer, published) = writer.publish_as::<Publishes, R>(rt);
-    prove!(published.is_ok());
-    writer
+    for _ in rt.forever() {
+        let (shown, published) = writer.publish_as::<Publishes, R>(rt);
+        if published.is_ok() {
+            return shown;
+        }
+        writer = shown;
+    }
+    unreachable!()
 }

@@ -1,16 +1,19 @@
-ghost use Rattle.std.specs.Prelude.{◌≡◌};
+ghost use Rattle.std.specs.Prelude.{◌≡◌, OnErr, OnOk};
 ghost use Rattle.head_board.specs.inside.Showing.{change_with, with_added};
 
 use crate::coming_texts::{ComingTexts, Piece, TextField};
 use crate::event_log::SeenEvents;
 use crate::head_table::HeadTable;
 use crate::last_changes::LastChanges;
-use upload_book::{Accounts, Growth, HeadNote, Kind, Moment, Name, NotedChange, RowRef, Settings};
+use std::alloc::AllocError;
+use upload_book::{
+    Accounts, Growth, HeadNote, Kind, Moment, Name, NotedChange, RowRef, Settings, SharedRow,
+};
 
 /// What readers read: the heads of the book, and the events of the log whose changes were made to them. There are two
 /// copies: readers read one while the writer changes the other. Each knows up to which event what it tells of an upload last
 /// changed, so that a look rests on no event that came later. And each has room for the texts of the upload that is created
-/// next: they come in pieces, so that a note is small, and go from there to their row.
+/// next: they come in pieces, so that a note is small, and go from there to their row. Texts that are shared come with the note.
 #[derive(Drop)]
 pub struct BoardCopy {
     pub(crate) table: HeadTable,
@@ -19,11 +22,13 @@ pub struct BoardCopy {
     pub(crate) coming: ComingTexts,
 }
 
-/// What an event changes of the heads, where the texts of a new upload came before.
-#[derive(Clone, Copy, Debug)]
+/// What an event changes of the heads, where the texts of a new upload came before, or are shared.
+#[derive(Drop)]
 pub enum SmallChange {
     /// The tenant at this place has a new upload.
     Created(u8, Kind, Growth),
+    /// The same of an upload whose texts are shared.
+    Shared(u8, SharedRow),
     /// The upload of this name is so far from now on.
     Grown(Name, Growth),
     /// The upload of this name has ended.
@@ -75,35 +80,41 @@ pub struct View {
 
 impl SmallChange {
     /// The change with the texts that came.
-    fn with<'a>(&self, texts: &'a ComingTexts) -> NotedChange<'a>
+    fn with<'a>(&'a self, texts: &'a ComingTexts) -> NotedChange<'a>
         ensures { result ≡ change_with texts.now self.now }
     {
-        match *self {
+        match self {
             SmallChange::Created(tenant, kind, growth) => {
-                let row = RowRef::new(kind, growth, texts.metadata(), texts.concat());
-                NotedChange::Created(tenant, row)
+                let row = RowRef::new(*kind, *growth, texts.metadata(), texts.concat());
+                NotedChange::Created(*tenant, row)
             }
-            SmallChange::Grown(name, growth) => NotedChange::Grown(name, growth),
-            SmallChange::Gone(name) => NotedChange::Gone(name),
-            SmallChange::Swept(now) => NotedChange::Swept(now),
-            SmallChange::Next(name) => NotedChange::Next(name),
+            SmallChange::Shared(tenant, row) => NotedChange::Shared(*tenant, row.lent()),
+            SmallChange::Grown(name, growth) => NotedChange::Grown(*name, *growth),
+            SmallChange::Gone(name) => NotedChange::Gone(*name),
+            SmallChange::Swept(now) => NotedChange::Swept(*now),
+            SmallChange::Next(name) => NotedChange::Next(*name),
             SmallChange::Totals => NotedChange::Totals,
         }
     }
 }
 
 impl BoardCopy {
-    /// Makes the change of an event.
-    pub(crate) fn add(&mut self, added: &Added)
-        ensures { self.new ≡ with_added self.old added.now }
+    /// Makes the change of an event. It takes no memory, unless that is a creation whose texts came in pieces, and there is no
+    /// box for them. The error is that there was none, or that shared texts have as many owners as can be counted; then nothing
+    /// changes.
+    pub(crate) fn add(&mut self, added: &Added) -> Result<(), AllocError>
+        ensures added { OnOk result (self.new ≡ with_added self.old added.now) }
+        ensures refused { OnErr result (self.new ≡ self.old) }
     {
         let note = HeadNote {
             change: added.change.with(&self.coming),
             accounts: added.accounts,
         };
+        let shared = self.table.row_ahead(&note.change)?;
         self.last_changes
             .note(&self.table, &note.change, &added.after);
-        self.table.apply(&note);
+        self.table.put(&note, shared);
         self.seen = added.after.again();
+        Ok(())
     }
 }

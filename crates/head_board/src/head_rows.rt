@@ -2,26 +2,26 @@ ghost use Rattle.std.specs.Prelude.{◌≡◌, ◌<◌, ◌≤◌, ◌==◌, ◌
 ghost use Rattle.std.specs.List.{remove};
 ghost use Rattle.std.specs.List.Sorted.{IsStrictlyIncreasing};
 ghost use Rattle.head_board.specs.Room.{takes_row};
+ghost use Rattle.head_board.specs.inside.RowPlace.{IsRowFor};
 ghost use Rattle.head_board.specs.inside.Rows.{AreBounded, IsGrown, row_ids};
+ghost use Rattle.upload_book.specs.declared.head_row.HeadRow.{HeadRow};
 ghost use Rattle.upload_book.specs.Heads.{with_row, without_expired};
 ghost use Rattle.upload_book.specs.Expiry.{has_expired};
 ghost use Rattle.upload_book.specs.TenantBook.{Entry, opening_part, visible_in, with_changed, with_new, with_next};
 ghost use Rattle.upload_book.specs.Terminate.{without};
 
-use crate::first_end::earlier;
-use crate::kept_row::{KeptRow, empty_rows};
+use crate::row_list::RowList;
 use std::alloc::{AllocError, Global};
 use std::marker::Model;
-use upload_book::{Growth, HeadRow, Moment, Refusal, RowRef};
+use upload_book::{Growth, Moment, Refusal, RowRef, SharedRow};
 
-/// The rows of a tenant's uploads by ascending id, the id that its next one gets, and boxes for as many more as it may
-/// have. A contract sees the tenant's part of the heads, and for how many rows there is room.
+/// The rows of a tenant's uploads by ascending id, and the id that its next one gets. A contract sees the tenant's part of the
+/// heads, and for how many rows there is room.
 #[derive(Drop)]
 pub(crate) struct HeadRows {
     quota: u64,
     next: u64,
-    rows: Vec<KeptRow>,
-    spare: Vec<Box<HeadRow>>,
+    list: RowList,
 }
 
 impl Model for HeadRows {
@@ -35,32 +35,33 @@ impl Model for HeadRows {
 }
 
 impl HeadRows {
-    /// The part of a tenant that has no upload yet, with room for so many. All its memory is taken here; the error is
-    /// that there was too little.
+    /// The part of a tenant that has no upload yet, with room for so many. All its memory is taken here, but for texts that
+    /// are shared; the error is that there was too little.
     pub(crate) fn new(alloc: Global, quota: u64, room: usize) -> Result<HeadRows, AllocError>
         ensures { IfOk result (λ r. r ≡ record { part = opening_part quota; room = room }) }
     {
         Ok(HeadRows {
             quota,
             next: 1,
-            rows: Vec::with_capacity(alloc, room)?,
-            spare: empty_rows(alloc, room)?,
+            list: RowList::new(alloc, room)?,
         })
     }
 
-    /// Puts the row of a new upload under the next id. Says whether it did. It does not where there is no room for it, or
-    /// no id up to `last_id`, and then nothing changes.
-    pub(crate) fn create(&mut self, last_id: u64, row: &RowRef) -> bool
-        requires { last_id < 18446744073709551615 }
+    /// Puts the row of a new upload under the next id: the one that shares its texts, or else a copy. Says whether it did. It
+    /// does not where there is no room for it, or no id up to `last_id`, and then nothing changes.
+    pub(crate) fn create(&mut self, last_id: u64, row: &RowRef, shared: Option<SharedRow>) -> bool
+        requires last_id { last_id < 18446744073709551615 }
+        requires row { IsRowFor self.old.room shared row.now }
         ensures put { result ≡ takes_row self.old.room last_id self.old.part self.old.part.next }
         ensures after { self.new ≡ (if result then record self.old { part = with_row self.old.part self.old.part.next row.now } else self.old) }
     {
-        self.add(last_id, row)
+        self.add(last_id, row, shared)
     }
 
     // Puts the row of a new upload.
-    fn add(&mut self, last_id: u64, row: &RowRef) -> bool
-        requires { last_id < 18446744073709551615 }
+    fn add(&mut self, last_id: u64, row: &RowRef, shared: Option<SharedRow>) -> bool
+        requires last_id { last_id < 18446744073709551615 }
+        requires row { IsRowFor self.old.room shared row.now }
         ensures { MatchBool result
             ((length self.old.part.uploads < self.old.room) × (self.old.part.next ≤ last_id)
             × (self.new ≡ record self.old { part = with_new self.old.part row.now }))
@@ -70,10 +71,10 @@ impl HeadRows {
         if self.next > last_id {
             return false;
         }
-        let Some(place) = self.spare.pop() else {
+        if self.list.is_full() {
             return false;
-        };
-        self.rows.push_reserved(KeptRow::new(self.next, place, row));
+        }
+        self.list.push(self.next, row, shared);
         self.next += 1;
         true
     }
@@ -98,7 +99,7 @@ impl HeadRows {
         let Some(place) = self.place(id) else {
             return false;
         };
-        self.rows[place].grow(growth);
+        self.list.grow(place, growth);
         true
     }
 
@@ -135,22 +136,17 @@ impl HeadRows {
         let Some(place) = self.place(id) else {
             return Err(Refusal::Gone);
         };
-        let row = &self.rows[place];
-        if row.has_expired(now) {
+        if self.list.has_expired(place, now) {
             return Err(Refusal::Gone);
         }
-        Ok(row.lent())
+        Ok(self.list.lent(place))
     }
 
     /// When the first of the uploads expires, if one does.
     pub(crate) fn first_end(&self) -> Option<Moment>
         ensures { AreBounded result self.now.part.uploads }
     {
-        let mut first = None;
-        for row in self.rows.iter() {
-            first = earlier(first, row.expires());
-        }
-        first
+        self.list.first_end()
     }
 
     /// The id that the next upload gets.
@@ -164,7 +160,7 @@ impl HeadRows {
     pub(crate) fn count(&self) -> usize
         ensures { result ≡ length self.now.part.uploads }
     {
-        self.rows.len()
+        self.list.len()
     }
 
     // Whether the upload at a place has expired at this moment.
@@ -172,15 +168,15 @@ impl HeadRows {
         requires { place < length self.now.part.uploads }
         ensures { (d : Entry HeadRow) → result ≡ has_expired now (slice_index_or self.now.part.uploads place d).kept.expires }
     {
-        self.rows[place].has_expired(now)
+        self.list.has_expired(place, now)
     }
 
-    // The place of the row under an id, if one is there. It is found by halving.
+    // The place of the row under an id, if one is there.
     fn place(&self, id: u64) -> Option<usize>
         ensures place { result ≡ position (λ e. e.id == id) self.now.part.uploads }
         ensures ascending { IsStrictlyIncreasing (row_ids self.now.part.uploads) }
     {
-        self.rows.binary_search_by_key(&id, |row| row.id()).ok()
+        self.list.place(id)
     }
 
     // Takes out the row at a place.
@@ -190,7 +186,6 @@ impl HeadRows {
           part = record self.old.part { uploads = remove self.old.part.uploads place };
         } }
     {
-        let row = self.rows.remove(place);
-        self.spare.push_reserved(row.into_box());
+        self.list.take_out(place);
     }
 }

@@ -1,9 +1,10 @@
-ghost use Rattle.std.specs.Prelude.{◌≡◌, ◌<◌, false, length, map, set, All, IfOk, if◌then◌else◌};
+ghost use Rattle.std.specs.Prelude.{◌≡◌, ◌<◌, false, length, map, set, All, IfOk, OnErr, OnOk, if◌then◌else◌};
 ghost use Rattle.std.specs.List.{range_with_len};
 ghost use Rattle.head_board.specs.Expired.{NoneHasExpired};
-ghost use Rattle.head_board.specs.Room.{heads_noted};
+ghost use Rattle.head_board.specs.Room.{heads_noted, MayLackRow};
 ghost use Rattle.head_board.specs.Totals.{totals_of, upload_count};
-ghost use Rattle.head_board.specs.inside.HeadTable.{is_taken, opening_parts, parts_noted};
+ghost use Rattle.head_board.specs.inside.HeadTable.{is_taken, opening_parts, parts_noted, IsRowAhead};
+ghost use Rattle.head_board.specs.inside.RowPlace.{IsRowFor};
 ghost use Rattle.head_board.specs.inside.Rows.{AreBounded};
 ghost use Rattle.upload_book.specs.declared.board_line.HeadChange.TheVariants as head;
 ghost use Rattle.upload_book.specs.declared.head_note.NotedChange.TheVariants.{Created, Grown, Next};
@@ -18,13 +19,16 @@ use std::alloc::{AllocError, Global};
 use std::marker::Model;
 use upload_book::{
     Accounts, Growth, HeadNote, HeadRow, Moment, Name, NotedChange, Refusal, RowRef, Settings,
+    SharedRow, has_boxes,
 };
 
 /// The heads of a book once more, from which a HEAD can be answered beside the book: a row for each upload, and the
-/// accounts. It has room for as many rows of each tenant as the settings allow, so it takes no memory after it is made. It
-/// keeps a moment before which no row expires, so that most sweeps look at no row.
+/// accounts. It has room for as many rows of each tenant as the settings allow. Where that is at most 64, it takes no memory
+/// after it is made; else each row shares the texts of its upload. It keeps a moment before which no row expires, so that
+/// most sweeps look at no row.
 #[derive(Drop)]
 pub struct HeadTable {
+    alloc: Global,
     settings: Settings,
     parts: Vec<HeadRows>,
     accounts: Accounts,
@@ -43,12 +47,13 @@ impl Model for HeadTable {
 }
 
 impl HeadTable {
-    /// The heads of a new book of these settings. All memory of the table is taken here; the error is that there was
-    /// too little.
+    /// The heads of a new book of these settings. All memory of the table is taken here, but for texts where a tenant may
+    /// have more than 64 uploads; the error is that there was too little.
     pub fn new(alloc: Global, settings: &Settings) -> Result<HeadTable, AllocError>
         ensures { IfOk result (λ t. t ≡ heads_of (opening_book settings.now)) }
     {
         Ok(HeadTable {
+            alloc,
             settings: settings.copied(),
             parts: empty_parts(alloc, settings)?,
             accounts: Accounts {
@@ -137,23 +142,56 @@ impl HeadTable {
     }
 
     /// Changes what a note says. One that stands for no line on these heads changes nothing, nor does one for which there
-    /// is no room: a line that may follow on these heads always has room ([`crate::laws::lines_have_room`]). It takes no
-    /// memory, and copies no text but those of a new upload.
-    pub fn apply(&mut self, note: &HeadNote)
+    /// is no room: a line that may follow on these heads always has room ([`crate::laws::lines_have_room`]).
+    ///
+    /// It takes no memory where a tenant may have at most 64 uploads: the texts of a new one are copied to a box then. Above 64
+    /// its row owns the texts that the note shares; texts that are only lent are copied to memory of their own. The error, with
+    /// which nothing changes, is that there was none, or that there are as many owners as can be counted, which no run comes to.
+    pub fn apply(&mut self, note: &HeadNote) -> Result<(), AllocError>
+        ensures applied { OnOk result (self.new ≡ heads_noted self.old note.now) }
+        ensures refused { OnErr result (self.new ≡ self.old) }
+        ensures memory { OnErr result (MayLackRow self.old.settings.numbers.uploads note.now.change) }
+    {
+        let shared = self.row_ahead(&note.change)?;
+        self.put(note, shared);
+        Ok(())
+    }
+
+    /// The row of a new upload with texts that it shares, where there are no boxes for them. It takes no memory where the
+    /// texts are shared already. The error is that it could not.
+    pub(crate) fn row_ahead(&self, change: &NotedChange) -> Result<Option<SharedRow>, AllocError>
+        ensures row { IfOk result (IsRowAhead self.now.settings.numbers.uploads change.now) }
+        ensures memory { OnErr result (MayLackRow self.now.settings.numbers.uploads change.now) }
+    {
+        if has_boxes(self.settings.numbers().uploads) {
+            return Ok(None);
+        }
+        match change {
+            NotedChange::Created(_, row) => Ok(Some(SharedRow::copied(self.alloc, row)?)),
+            NotedChange::Shared(_, row) => Ok(Some(row.owned()?)),
+            _ => Ok(None),
+        }
+    }
+
+    /// Changes what a note says, with the row that was made ahead. It takes no memory.
+    pub(crate) fn put(&mut self, note: &HeadNote, shared: Option<SharedRow>)
+        requires { IsRowAhead self.old.settings.numbers.uploads note.now.change shared }
         ensures { self.new ≡ heads_noted self.old note.now }
     {
-        if self.change(&note.change) {
+        if self.change(&note.change, shared) {
             self.accounts = note.accounts;
         }
     }
 
     // Changes the rows, and says whether there is something to change, and room for it.
-    fn change(&mut self, change: &NotedChange) -> bool
+    fn change(&mut self, change: &NotedChange, shared: Option<SharedRow>) -> bool
+        requires { IsRowAhead self.old.settings.numbers.uploads change.now shared }
         ensures there { result ≡ is_taken self.old change.now }
         ensures after { self.new ≡ (if result then record self.old { tenants = parts_noted self.old change.now } else self.old) }
     {
         match change {
-            NotedChange::Created(tenant, row) => self.create(*tenant, row),
+            NotedChange::Created(tenant, row) => self.create(*tenant, row, shared),
+            NotedChange::Shared(tenant, row) => self.create(*tenant, &row.row(), shared),
             NotedChange::Grown(name, growth) => self.grow(name, growth),
             NotedChange::Gone(name) => {
                 self.remove(name);
@@ -168,8 +206,9 @@ impl HeadTable {
         }
     }
 
-    // Puts the row of a new upload of a tenant, if there is room for it.
-    fn create(&mut self, tenant: u8, row: &RowRef) -> bool
+    // Puts the row of a new upload of a tenant, if there is room for it: the one that shares its texts, or else a copy.
+    fn create(&mut self, tenant: u8, row: &RowRef, shared: Option<SharedRow>) -> bool
+        requires { IsRowFor self.old.settings.numbers.uploads shared row.now }
         ensures there { result ≡ is_taken self.old (Created tenant row.now) }
         ensures after { self.new ≡ (if result then record self.old { tenants = parts_noted self.old (Created tenant row.now) } else self.old) }
     {
@@ -179,7 +218,7 @@ impl HeadTable {
         }
         let last_id = self.settings.numbers().last_id;
         self.first_end = earlier(self.first_end, row.growth().expires);
-        self.parts[tenant].create(last_id, row)
+        self.parts[tenant].create(last_id, row, shared)
     }
 
     // The upload of a name is so far from now on, if it is there.

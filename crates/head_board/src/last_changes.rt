@@ -53,6 +53,7 @@ impl LastChanges {
     {
         match change {
             NotedChange::Created(tenant, _) => self.mark(table.next_id(*tenant), after),
+            NotedChange::Shared(tenant, _) => self.mark(table.next_id(*tenant), after),
             NotedChange::Grown(name, _) => self.mark(name.id, after),
             NotedChange::Gone(name) => self.mark(name.id, after),
             NotedChange::Swept(_) => self.mark_all(after),

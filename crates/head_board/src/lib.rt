@@ -15,6 +15,7 @@ mod head_table;
 mod kept_row;
 mod last_changes;
 pub mod laws;
+mod row_list;
 mod showing;
 mod totals;
 

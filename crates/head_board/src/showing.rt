@@ -16,14 +16,12 @@ impl Absorb<Note> for BoardCopy {
 
     ghost applied = { noted };
 
-    ghost never_fails = { Unit {0} };
-
     fn absorb_first(&mut self, note: &Note, _other: &BoardCopy) -> Result<(), AllocError> {
         match note {
             Note::Nothing => {}
             Note::NoTexts => self.coming.clear(),
             Note::More(field, piece) => self.coming.add(*field, piece),
-            Note::Adds(added) => self.add(added),
+            Note::Adds(added) => self.add(added)?,
         }
         Ok(())
     }

@@ -6,13 +6,13 @@ ghost use Rattle.upload_book.specs.Book.{plain_of};
 ghost use Rattle.upload_book.specs.Change.{CanBeMade};
 
 use crate::moments::moment;
-use crate::tables::{assert_shown, name};
+use crate::tables::{assert_shown, name, narrow};
 use head_board::{Board, Coming, HeadReader, Opened, SeenEvents};
 use std::alloc::{AllocError, Global};
 use std::process::Abort;
 use std::sync::Wait;
 use std::test::Fail;
-use upload_book::{Book, Change, FirstChunk, HeadRow, NewUpload, Payload, Refusal};
+use upload_book::{Book, Change, FirstChunk, HeadRow, NewUpload, Payload, Refusal, Settings};
 use worked_example::settings;
 
 // A place for the rows of a reader.
@@ -20,12 +20,16 @@ fn place(alloc: Global) -> Result<Box<HeadRow>, AllocError> {
     Ok(Box::new(alloc, HeadRow::empty())?)
 }
 
-// A new book, and its board with room for so many readers.
-fn opened<'a, W: Wait + Abort>(rt: &'a W, alloc: Global, readers: usize) -> (Board<&'a W>, Book)
+// A new book of these settings, and its board with room for so many readers.
+fn opened<'a, W: Wait + Abort>(
+    rt: &'a W,
+    alloc: Global,
+    settings: Settings,
+    readers: usize,
+) -> (Board<&'a W>, Book)
     requires { (0 < readers) × (readers < 2 ^ 32) }
     ensures { plain_of result.1 ≡ book_at result.0.settings result.0.events }
 {
-    let settings = settings().expect(rt, "settings");
     let board = Board::new(alloc, rt, &settings, readers, Opened::new());
     let board = board.expect(rt, "a board");
     let book = Book::new(alloc, settings).expect(rt, "a book");
@@ -120,7 +124,7 @@ fn assert_rests(rt: &impl Abort, reader: &mut HeadReader, id: u64, expected: &Se
 
 #[test]
 fn readers_see_what_is_shown(rt: HostRuntime) -> Result<(), Fail> {
-    let (mut board, mut book) = opened(&rt, rt.alloc(), 2);
+    let (mut board, mut book) = opened(&rt, rt.alloc(), settings()?, 2);
     let mut one = board.reader(place(rt.alloc())?)?;
     let mut other = board.reader(place(rt.alloc())?)?;
     assert_seen(&rt, &mut one, Err(Refusal::Unknown));
@@ -144,8 +148,19 @@ fn readers_see_what_is_shown(rt: HostRuntime) -> Result<(), Fail> {
 }
 
 #[test]
+fn readers_see_uploads_without_a_box(rt: HostRuntime) -> Result<(), Fail> {
+    let (mut board, mut book) = opened(&rt, rt.alloc(), narrow(65, 9)?, 1);
+    let mut reader = board.reader(place(rt.alloc())?)?;
+    make_two(&rt, &mut board, &mut book);
+    assert_seen(&rt, &mut reader, Ok(5));
+    drop(book);
+    assert_seen(&rt, &mut reader, Ok(5));
+    Ok(())
+}
+
+#[test]
 fn a_look_rests_on_what_changed_its_upload(rt: HostRuntime) -> Result<(), Fail> {
-    let (mut board, mut book) = opened(&rt, rt.alloc(), 1);
+    let (mut board, mut book) = opened(&rt, rt.alloc(), settings()?, 1);
     let mut reader = board.reader(place(rt.alloc())?)?;
     let first = make_two(&rt, &mut board, &mut book);
     assert!(rt; !board.seen().begins(&first));
@@ -156,7 +171,7 @@ fn a_look_rests_on_what_changed_its_upload(rt: HostRuntime) -> Result<(), Fail> 
 
 #[test]
 fn a_look_sees_that_its_upload_has_ended(rt: HostRuntime) -> Result<(), Fail> {
-    let (mut board, mut book) = opened(&rt, rt.alloc(), 1);
+    let (mut board, mut book) = opened(&rt, rt.alloc(), settings()?, 1);
     let mut reader = board.reader(place(rt.alloc())?)?;
     make_two(&rt, &mut board, &mut book);
     make(

@@ -6,9 +6,10 @@ use crate::moments::moment;
 use head_board::HeadTable;
 use std::process::Abort;
 use std::test::Fail;
-use upload_book::NotedChange::{Created, Gone, Grown, Next, Swept, Totals};
+use upload_book::NotedChange::{Created, Gone, Grown, Next, Shared, Swept, Totals};
 use upload_book::{
-    Accounts, Growth, HeadNote, Kind, Moment, Name, NotedChange, Numbers, Refusal, RowRef, Settings,
+    Accounts, Bounds, Growth, HeadNote, Kind, Moment, Name, NotedChange, Numbers, Refusal, RowRef,
+    Settings, SharedRow,
 };
 use worked_example::settings;
 
@@ -122,7 +123,7 @@ fn assert_shows(
 
 // Applies a note to a table, which then has what was charged after it.
 fn apply(rt: &impl Abort, table: &mut HeadTable, change: NotedChange, charged: u64) {
-    table.apply(&note(change, charged));
+    assert!(rt; table.apply(&note(change, charged)).is_ok());
     assert!(rt; table.accounts().charged == charged);
 }
 
@@ -160,8 +161,8 @@ fn a_table_follows_its_notes(rt: HostRuntime) -> Result<(), Fail> {
     Ok(())
 }
 
-// Settings of one tenant with so many uploads at most, of which the last has this id.
-fn narrow(uploads: u64, last_id: u64) -> Result<Settings, Fail> {
+/// Settings of one tenant with so many uploads at most, of which the last has this id.
+pub fn narrow(uploads: u64, last_id: u64) -> Result<Settings, Fail> {
     let numbers = Numbers {
         blocks: 12,
         block_size: 4,
@@ -171,19 +172,20 @@ fn narrow(uploads: u64, last_id: u64) -> Result<Settings, Fail> {
         last_id,
         last_total: u64::MAX,
     };
-    Ok(Settings::new(numbers, &[(b"acme", 8)])?)
+    Ok(Settings::within(Bounds::Wide, numbers, &[(b"acme", 8)])?)
 }
 
 // A new upload of acme has as many bytes as blocks were charged.
-fn create(table: &mut HeadTable, charged: u64, metadata: &'static [u8; 6]) {
-    table.apply(&note(Created(0, row(charged, metadata, None)), charged));
+fn create(rt: &impl Abort, table: &mut HeadTable, charged: u64, metadata: &'static [u8; 6]) {
+    let created = Created(0, row(charged, metadata, None));
+    assert!(rt; table.apply(&note(created, charged)).is_ok());
 }
 
 // Of three new uploads a table has room for two: after the third it is as after the second.
 fn assert_two_fit(rt: &impl Abort, table: &mut HeadTable) {
-    create(table, 1, b"key QQ");
-    create(table, 2, b"key Qg");
-    create(table, 3, b"key Qw");
+    create(rt, table, 1, b"key QQ");
+    create(rt, table, 2, b"key Qg");
+    create(rt, table, 3, b"key Qw");
     assert_shows(rt, table, name(0, 3), 1000, Err(Refusal::Unknown));
     assert_shows(rt, table, name(0, 2), 1000, Ok((2, b"key Qg")));
     assert!(rt; table.accounts().charged == 2);
@@ -200,9 +202,9 @@ fn a_note_without_room_changes_nothing(rt: HostRuntime) -> Result<(), Fail> {
 
 // A new upload of acme is shown, and is gone once it ends.
 fn create_and_end(rt: &impl Abort, table: &mut HeadTable, id: u64) {
-    create(table, id, b"key QQ");
+    create(rt, table, id, b"key QQ");
     assert_shows(rt, table, name(0, id), 1000, Ok((id, b"key QQ")));
-    table.apply(&note(Gone(name(0, id)), id));
+    apply(rt, table, Gone(name(0, id)), id);
     assert_shows(rt, table, name(0, id), 1000, Err(Refusal::Gone));
 }
 
@@ -211,6 +213,27 @@ fn a_box_serves_the_next_upload(rt: HostRuntime) -> Result<(), Fail> {
     let mut table = HeadTable::new(rt.alloc(), &narrow(1, 9)?)?;
     for id in 1..6 {
         create_and_end(&rt, &mut table, id);
+    }
+    Ok(())
+}
+
+// Uploads of acme whose texts are shared are shown once nobody else owns these.
+fn assert_shares(rt: &impl Abort, table: &mut HeadTable, shared: SharedRow) {
+    apply(rt, table, Shared(0, shared.lent()), 1);
+    apply(rt, table, Shared(0, shared.lent()), 2);
+    drop(shared);
+    assert_shows(rt, table, name(0, 1), 1000, Ok((7, b"key Qw")));
+    assert_shows(rt, table, name(0, 2), 1000, Ok((7, b"key Qw")));
+    create_and_end(rt, table, 3);
+    assert_shows(rt, table, name(0, 1), 1000, Ok((7, b"key Qw")));
+}
+
+#[test]
+fn texts_are_shared_where_there_is_no_box(rt: HostRuntime) -> Result<(), Fail> {
+    for uploads in [64, 65] {
+        let mut table = HeadTable::new(rt.alloc(), &narrow(uploads, 9)?)?;
+        let shared = SharedRow::copied(rt.alloc(), &row(7, b"key Qw", None))?;
+        assert_shares(&rt, &mut table, shared);
     }
     Ok(())
 }

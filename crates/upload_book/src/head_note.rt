@@ -2,6 +2,7 @@ use crate::board_line::Accounts;
 use crate::head_row::Name;
 use crate::moment::Moment;
 use crate::row_ref::RowRef;
+use crate::shared_row::SharedRowRef;
 
 /// How far an upload is, and when it expires: what a PATCH changes of its row.
 #[derive(Clone, Copy, Debug, PartialEq, Eq)]
@@ -19,6 +20,8 @@ pub struct Growth {
 pub enum NotedChange<'a> {
     /// The tenant at this place in the settings has a new upload of this row, under its next id.
     Created(u8, RowRef<'a>),
+    /// The same of an upload whose texts are shared, and need not be copied.
+    Shared(u8, SharedRowRef<'a>),
     /// The upload of this name is so far from now on.
     Grown(Name, Growth),
     /// The upload of this name has ended.

@@ -4,10 +4,12 @@ ghost use Rattle.upload_book.specs.Change.{book_after_change, head_change, line_
 ghost use Rattle.upload_book.specs.Create.{new_kind};
 ghost use Rattle.upload_book.specs.declared.change.Change.TheVariants as change;
 ghost use Rattle.upload_book.specs.declared.head_row.Kind.TheVariants.{Final};
-ghost use Rattle.upload_book.specs.HeadNotes.{IsNoteOf};
-ghost use Rattle.upload_book.specs.Heads.{apply_line, heads_of};
+ghost use Rattle.upload_book.specs.declared.head_note.NotedChange.TheVariants as noted;
+ghost use Rattle.upload_book.specs.HeadNotes.{IsNoteOf, SharesTexts, change_told};
+ghost use Rattle.upload_book.specs.Heads.{Heads, apply_line, heads_of};
 ghost use Rattle.upload_book.specs.HeadSteps.{MayFollow};
 ghost use Rattle.upload_book.specs.inside.Notes.{IsNoted};
+ghost use Rattle.upload_book.specs.inside.Texts.{IsTextsFor};
 ghost use Rattle.upload_book.specs.Lawful.{IsConcatText, is_kept_metadata};
 ghost use Rattle.upload_book.specs.PlainBook.{tenant_book};
 ghost use Rattle.upload_book.specs.declared.restored.Restored.TheVariants as piece;
@@ -25,6 +27,9 @@ use crate::ready::{
     ReadyTotals, ReadyUpload, Step,
 };
 use crate::row_ref::RowRef;
+use crate::settings::Numbers;
+use crate::shared_row::SharedRowRef;
+use crate::texts::SharedTexts;
 
 impl<'a> Ready<'a> {
     /// The line by which the change will change the heads of the book, which is ready for it: what HEADs will tell,
@@ -49,7 +54,7 @@ impl<'a> Ready<'a> {
     /// a new upload are lent, and a PATCH tells its numbers alone. It takes no memory and changes nothing, so it can be
     /// told before [`Book::commit`]. On the heads of the book it stands for the line that [`Ready::line`] tells. The
     /// accounts cost what they cost there.
-    pub fn note(&self, book: &Book) -> HeadNote<'a>
+    pub fn note(&self, book: &Book) -> HeadNote<'_>
         requires { IsReady book.now self.now }
         ensures { IsNoteOf (plain_of book.now) (change_in self.now) (moment_in self.now) result }
     {
@@ -203,7 +208,7 @@ impl Book {
     }
 
     // What a change changes of the heads, as it is noted.
-    fn noted<'a>(&self, step: &Step<'a>) -> NotedChange<'a>
+    fn noted<'a>(&self, step: &'a Step<'a>) -> NotedChange<'a>
         requires { IsReadyForStep self.now step.now }
         ensures { IsNoted (plain_of self.now) (step_change step.now) (step_moment step.now) result }
     {
@@ -218,17 +223,14 @@ impl Book {
     }
 
     // How a creation is noted.
-    fn note_of_upload<'a>(&self, ready: &ReadyUpload<'a>) -> NotedChange<'a>
+    fn note_of_upload<'a>(&self, ready: &'a ReadyUpload<'a>) -> NotedChange<'a>
         requires { IsReadyForUpload self.now ready.now }
         ensures { IsNoted (plain_of self.now) (change.Create ready.entry.now.tenant ready.entry.now.new ready.entry.now.first)
             ready.entry.now.now result }
     {
-        // the numbers tell what is kept of the book
-        let _in_range = self.settings.numbers();
-        NotedChange::Created(
-            ready.tenant,
-            ready.new.row(ready.first.len(), ready.expires),
-        )
+        let numbers = self.settings.numbers();
+        let row = ready.new.row(ready.first.len(), ready.expires);
+        created(numbers, ready.tenant, row, &ready.texts)
     }
 
     // How a PATCH is noted.
@@ -249,14 +251,14 @@ impl Book {
     }
 
     // How a concatenation is noted.
-    fn note_of_final<'a>(&self, ready: &ReadyFinal<'a>) -> NotedChange<'a>
+    fn note_of_final<'a>(&self, ready: &'a ReadyFinal<'a>) -> NotedChange<'a>
         requires { IsReadyForFinal self.now ready.now }
         ensures { IsNoted (plain_of self.now) (change.Concat ready.entry.now.tenant ready.entry.now.new) ready.entry.now.now
             result }
     {
-        // the numbers tell what is kept of the book
-        let _in_range = self.settings.numbers();
-        NotedChange::Created(ready.tenant, ready.new.row(ready.len))
+        let numbers = self.settings.numbers();
+        let row = ready.new.row(ready.len);
+        created(numbers, ready.tenant, row, &ready.texts)
     }
 
     // How a DELETE is noted.
@@ -277,7 +279,7 @@ impl Book {
     }
 
     // How a piece that is put back is noted.
-    fn note_of_piece<'a>(&self, ready: &ReadyPiece<'a>) -> NotedChange<'a>
+    fn note_of_piece<'a>(&self, ready: &'a ReadyPiece<'a>) -> NotedChange<'a>
         requires { IsReadyForPiece self.now ready.now }
         ensures { (now : ℕ) → IsNoted (plain_of self.now) (change.Restore (piece_in ready.entry.now)) now result }
     {
@@ -290,25 +292,25 @@ impl Book {
     }
 
     // How an upload of its own is noted.
-    fn note_of_own<'a>(&self, ready: &ReadyOwn<'a>) -> NotedChange<'a>
+    fn note_of_own<'a>(&self, ready: &'a ReadyOwn<'a>) -> NotedChange<'a>
         requires { IsReadyForOwn self.now ready.now }
         ensures { (now : ℕ) → IsNoted (plain_of self.now)
             (change.Restore (piece.Upload ready.entry.now.tenant ready.entry.now.upload)) now result }
     {
-        // the numbers tell what is kept of the book
-        let _in_range = self.settings.numbers();
-        NotedChange::Created(ready.tenant, ready.upload.own_row())
+        let numbers = self.settings.numbers();
+        let row = ready.upload.own_row();
+        created(numbers, ready.tenant, row, &ready.texts)
     }
 
     // How a final upload is noted.
-    fn note_of_joined<'a>(&self, ready: &ReadyBack<'a>) -> NotedChange<'a>
+    fn note_of_joined<'a>(&self, ready: &'a ReadyBack<'a>) -> NotedChange<'a>
         requires { IsReadyForBack self.now ready.now }
         ensures { (now : ℕ) → IsNoted (plain_of self.now)
             (change.Restore (piece.Upload ready.entry.now.tenant ready.entry.now.upload)) now result }
     {
-        // the numbers tell what is kept of the book
-        let _in_range = self.settings.numbers();
-        NotedChange::Created(ready.tenant, ready.upload.final_row())
+        let numbers = self.settings.numbers();
+        let row = ready.upload.final_row();
+        created(numbers, ready.tenant, row, &ready.texts)
     }
 
     // How a next id is noted.
@@ -341,6 +343,23 @@ impl Book {
             tenant,
             id: self.store.next(usize::from(tenant)),
         }
+    }
+}
+
+// How the row of a new upload is noted whose texts got this memory, if they did.
+fn created<'a>(
+    numbers: &Numbers,
+    tenant: u8,
+    row: RowRef<'a>,
+    texts: &'a Option<SharedTexts>,
+) -> NotedChange<'a>
+    requires { IsTextsFor numbers.now.uploads texts.now row.metadata row.concat }
+    ensures told { (h : Heads) → change_told h result ≡ change_told h (noted.Created tenant row.entry) }
+    ensures texts { SharesTexts numbers.now.uploads result }
+{
+    match texts {
+        Some(texts) => NotedChange::Shared(tenant, SharedRowRef::new(&row, texts)),
+        None => NotedChange::Created(tenant, row),
     }
 }
 

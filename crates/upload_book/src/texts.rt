@@ -80,6 +80,17 @@ impl SharedTexts {
         })
     }
 
+    /// The same texts, with one more owner. It takes no memory. The error is that there are as many owners as can be counted, 2^63 - 1,
+    /// which no run has.
+    pub fn again(&self) -> Result<SharedTexts, AllocError>
+        ensures metadata { IfOk result (λ t. shared_metadata t ≡ shared_metadata self.now) }
+        ensures concat { IfOk result (λ t. shared_concat t ≡ shared_concat self.now) }
+    {
+        Ok(SharedTexts {
+            texts: Arc::try_clone(&self.texts)?,
+        })
+    }
+
     /// `Upload-Metadata`.
     pub fn metadata(&self) -> &[u8]
         ensures { result.now ≡ shared_metadata self.now }
@@ -170,11 +181,18 @@ impl UploadTexts {
     }
 }
 
+/// Whether there is a box for the texts of each upload from the start, where a tenant may have so many uploads.
+pub fn has_boxes(uploads: u64) -> bool
+    ensures { result ≡ is_reserved uploads }
+{
+    uploads <= RESERVED_UPLOADS
+}
+
 /// How many boxes for texts there are from the start, where a tenant may have so many uploads.
 pub fn boxes_from_start(uploads: usize) -> usize
     ensures { result ≡ (if is_reserved uploads then uploads else 0) }
 {
-    if uploads as u64 <= RESERVED_UPLOADS {
+    if has_boxes(uploads as u64) {
         uploads
     } else {
         0
@@ -192,7 +210,7 @@ pub(crate) fn texts_ahead(
     ensures texts { IfOk result (λ taken. IsTextsFor numbers.now.uploads taken metadata.now concat.now) }
     ensures memory { OnErr result (64 < numbers.now.uploads) }
 {
-    if numbers.uploads <= RESERVED_UPLOADS {
+    if has_boxes(numbers.uploads) {
         return Ok(None);
     }
     Ok(Some(SharedTexts::copied(alloc, metadata, concat)?))

@@ -1,10 +1,13 @@
 -- How a table keeps the heads of a book.
-use Rattle.std.specs.Prelude.{◌≡◌, Bool, false, List, map, All}
+use Rattle.std.specs.Prelude.{◌≡◌, ℕ, Bool, false, List, map, All, Option, ⊤}
 use Rattle.std.specs.Option.{option_map_or}
 use Rattle.head_board.specs.declared.head_table.HeadTable.TheInside.{Inside}
+use Rattle.head_board.specs.inside.RowPlace.{IsRowFor}
 use Rattle.head_board.specs.inside.Rows.{AreBounded, Rows}
 use Rattle.upload_book.specs.declared.settings.TenantQuota.{TenantQuota}
 use Rattle.upload_book.specs.declared.head_note.NotedChange.{NotedChange}
+use Rattle.upload_book.specs.declared.head_note.NotedChange.TheVariants.{Created, Shared}
+use Rattle.upload_book.specs.declared.head_row.HeadRow.{HeadRow}
 use Rattle.upload_book.specs.HeadNotes.{change_told}
 use Rattle.upload_book.specs.Heads.{Heads, HeadPart, parts_after}
 use Rattle.head_board.specs.Room.{has_room}
@@ -35,3 +38,9 @@ is_taken h change = option_map_or (has_room h) (change_told h change) false
 -- the tenants' parts after it
 abbrev pub parts_noted : Heads → NotedChange → List HeadPart
 parts_noted h change = option_map_or (parts_after h) (change_told h change) h.tenants
+
+-- the row of a new upload was made ahead, where there is no box for it
+abbrev pub IsRowAhead : ℕ → NotedChange → Option HeadRow → Type 0
+IsRowAhead uploads (Created tenant row) shared = IsRowFor uploads shared row
+IsRowAhead uploads (Shared tenant row) shared = IsRowFor uploads shared row
+IsRowAhead uploads change shared = ⊤

@@ -1,7 +1,7 @@
 -- Up to which event what is told of an upload last changed. There are 256 slots, and an id has that of its remainder.
 use Rattle.std.specs.Prelude.{ℕ, ◌%◌, List, [], replicate, set, slice_index_or}
 use Rattle.upload_book.specs.declared.head_note.NotedChange.{NotedChange}
-use Rattle.upload_book.specs.declared.head_note.NotedChange.TheVariants.{Created, Grown, Gone, Swept, Next, Totals}
+use Rattle.upload_book.specs.declared.head_note.NotedChange.TheVariants.{Created, Shared, Grown, Gone, Swept, Next, Totals}
 use Rattle.upload_book.specs.Heads.{Heads, head_part_at}
 use Rattle.head_board.specs.NoBoard.{no_log}
 use Rattle.head_board.specs.inside.EventLog.{LogPrefix}
@@ -26,6 +26,7 @@ all_marked after = replicate 256 after
 -- may tell of any id that nothing stands under it.
 abbrev pub last_after : List LogPrefix → Heads → NotedChange → LogPrefix → List LogPrefix
 last_after slots h (Created tenant row) after = marked slots (head_part_at h tenant).next after
+last_after slots h (Shared tenant row) after = marked slots (head_part_at h tenant).next after
 last_after slots h (Grown name growth) after = marked slots name.id after
 last_after slots h (Gone name) after = marked slots name.id after
 last_after slots h (Swept now) after = all_marked after

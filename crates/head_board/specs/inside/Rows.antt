@@ -1,5 +1,5 @@
 -- How a table keeps the rows of a tenant.
-use Rattle.std.specs.Prelude.{◌≡◌, ◌+◌, ◌≤◌, ℕ, ◌==◌, Bool, true, false, List, map, vec_len, vec_capacity, All, Option, Some, None, min, ⊤}
+use Rattle.std.specs.Prelude.{◌≡◌, ◌≤◌, ℕ, ◌==◌, Bool, true, false, List, map, All, Option, Some, None, min, ⊤}
 use Rattle.head_board.specs.declared.head_rows.HeadRows.TheInside.{Inside}
 use Rattle.upload_book.specs.declared.head_note.Growth.{Growth}
 use Rattle.upload_book.specs.declared.head_row.HeadRow.{HeadRow}
@@ -14,11 +14,11 @@ pub record Rows : Type 0 where
   pub part : HeadPart
   pub room : ℕ
 
--- the rows that are kept so: each box has a row or is spare
+-- the rows that are kept so
 abbrev pub rows_of : Inside → Rows
 rows_of r = record {
-  part = record { quota = r.quota; next = r.next; uploads = r.rows.items };
-  room = vec_len r.rows + vec_len r.spare;
+  part = record { quota = r.quota; next = r.next; uploads = r.list.rows };
+  room = r.list.room;
 }
 
 -- of a tenant's rows the one under an id grew, if it stands there, and no more changed
@@ -51,9 +51,6 @@ AreBounded bound rows = All (λ (e : Entry HeadRow). IsNotBefore bound e.kept.ex
 abbrev pub AreFresh : ℕ → List (Entry HeadRow) → Type 0
 AreFresh now rows = All (λ (e : Entry HeadRow). has_expired now e.kept.expires ≡ false) rows
 
--- Each of the two lists has room for all boxes, so that none is ever lost; and the ids are as they should
--- be.
-pub record AreRows (r : Inside) : Type 0 where
-  pub rows : vec_len r.rows + vec_len r.spare ≤ vec_capacity r.rows
-  pub spare : vec_len r.rows + vec_len r.spare ≤ vec_capacity r.spare
-  pub ids : AreBelow r.next r.rows.items
+-- the ids are as they should be
+abbrev pub AreRows : Inside → Type 0
+AreRows r = AreBelow r.next r.list.rows

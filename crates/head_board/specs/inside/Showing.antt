@@ -5,7 +5,7 @@ use mathlib.Core.Option.{some}
 use lib.ListN.{get_elem?}
 use Rattle.logbook.specs.Pages.{Book}
 use Rattle.upload_book.specs.declared.head_note.NotedChange.{NotedChange}
-use Rattle.upload_book.specs.declared.head_note.NotedChange.TheVariants.{Created, Grown, Gone, Swept, Next, Totals}
+use Rattle.upload_book.specs.declared.head_note.NotedChange.TheVariants.{Created, Shared, Grown, Gone, Swept, Next, Totals}
 use Rattle.upload_book.specs.declared.head_note.HeadNote.{HeadNote}
 use Rattle.upload_book.specs.declared.head_row.Name.{Name}
 use Rattle.upload_book.specs.Heads.{heads_of, shown}
@@ -37,6 +37,7 @@ change_with texts (small.Created tenant kind growth) = Created tenant (record {
   concat = texts.concat;
   expires = growth.expires;
 })
+change_with texts (small.Shared tenant row) = Shared tenant row
 change_with texts (small.Grown name growth) = Grown name growth
 change_with texts (small.Gone name) = Gone name
 change_with texts (small.Swept now) = Swept now

@@ -1,5 +1,5 @@
 -- What each change for which a book is ready changes of the heads, where its row was found so, and the accounts after it.
-use Rattle.std.proofs.Common.{◌≡◌, ℕ, ◌+◌, ◌-◌, ◌<◌, ◌≤◌, length, None, Option, Some, ap, ap₂, sym, ◌∙◌, append-nil, arith}
+use Rattle.std.proofs.Common.{◌≡◌, ℕ, ◌+◌, ◌-◌, ◌<◌, ◌≤◌, List, length, None, Option, Some, ap, ap₂, subst, sym, ◌∙◌, append-nil, arith}
 use Rattle.std.proofs.lemmas.List.Sums.{get_or-le-sum_by}
 use Rattle.upload_book.specs.Account.{blocks_added}
 use Rattle.upload_book.specs.Append.{row_with, upload_with}
@@ -13,6 +13,7 @@ use Rattle.upload_book.specs.declared.board_line.Accounts.{Accounts}
 use Rattle.upload_book.specs.declared.board_line.HeadChange.{HeadChange}
 use Rattle.upload_book.specs.declared.board_line.HeadChange.TheVariants.{Gone, Put}
 use Rattle.upload_book.specs.declared.change.Change.TheVariants as change
+use Rattle.upload_book.specs.declared.head_note.NotedChange.{NotedChange}
 use Rattle.upload_book.specs.declared.head_note.NotedChange.TheVariants.{Created}
 use Rattle.upload_book.specs.declared.head_row.HeadRow.{HeadRow}
 use Rattle.upload_book.specs.declared.head_row.Kind.TheVariants.{Final}
@@ -23,7 +24,8 @@ use Rattle.upload_book.specs.declared.ready.ReadyFinal.{ReadyFinal}
 use Rattle.upload_book.specs.declared.ready.ReadyUpload.{ReadyUpload}
 use Rattle.upload_book.specs.declared.settings.Numbers.{Numbers}
 use Rattle.upload_book.specs.declared.progress.Progress.{Progress}
-use Rattle.upload_book.specs.HeadNotes.{change_told}
+use Rattle.upload_book.specs.declared.texts.SharedTexts.{SharedTexts}
+use Rattle.upload_book.specs.HeadNotes.{SharesTexts, change_told}
 use Rattle.upload_book.specs.Heads.{HeadPart, accounts_of, head_part_at, heads_of}
 use Rattle.upload_book.specs.Lawful.{IsTenantOf}
 use Rattle.upload_book.specs.PlainBook.{tenant_book, with_tenant_book}
@@ -31,6 +33,7 @@ use Rattle.upload_book.specs.Ready.{IsReadyForChunk, IsReadyForEnd, IsReadyForFi
 use Rattle.upload_book.specs.Progress.{progress_in}
 use Rattle.upload_book.specs.BlockStore.{part_at, upload_at}
 use Rattle.upload_book.specs.inside.Places.{without_upload}
+use Rattle.upload_book.specs.inside.Texts.{IsTextsFor}
 use Rattle.upload_book.specs.TenantBook.{TenantBook, kept_in, opening_part, with_changed, with_new}
 use Rattle.upload_book.specs.Terminate.{without}
 use Rattle.upload_book.specs.Upload.{Upload, head_row_of, offset_of}
@@ -53,6 +56,20 @@ use Rattle.upload_book.proofs.Lawful.SettingsLemmas.{blocks-within}
 abbrev pub Tells : StoredBook → ℕ → ℕ → Accounts → Type 0
 Tells b t charge accounts =
     (part : TenantBook) → charge_in b.settings.numbers part ≡ charge → accounts ≡ accounts_of (with_tenant_book (plain_of b) t part)
+
+-- memory was taken for texts by the numbers that were read of the book,
+pub texts-read : (b w : StoredBook) (n : Numbers) (texts : Option SharedTexts) (row : HeadRow) (metadata concat : List ℕ) → n ≡ w.settings.numbers → w ≡ b → IsTextsFor b.settings.numbers.uploads texts metadata concat → row.metadata ≡ metadata → row.concat ≡ concat
+    → IsTextsFor n.uploads texts row.metadata row.concat
+texts-read b w n texts row metadata concat read is taken same_metadata same_concat =
+    let numbers : n ≡ b.settings.numbers = read ∙ ap (λ (b : StoredBook). b.settings.numbers) is in
+    subst (λ (n : Numbers). IsTextsFor n.uploads texts row.metadata row.concat) (sym numbers)
+    (subst (λ (concat : List ℕ). IsTextsFor b.settings.numbers.uploads texts row.metadata concat) (sym same_concat)
+    (subst (λ (metadata : List ℕ). IsTextsFor b.settings.numbers.uploads texts metadata concat) (sym same_metadata) taken))
+
+-- and they are shared by them
+pub shares-read : (b w : StoredBook) (n : Numbers) (noted : NotedChange) → n ≡ w.settings.numbers → w ≡ b → SharesTexts n.uploads noted → SharesTexts b.settings.numbers.uploads noted
+shares-read b w n noted read is shares =
+    subst (λ (n : Numbers). SharesTexts n.uploads noted) (read ∙ ap (λ (b : StoredBook). b.settings.numbers) is) shares
 
 -- a tenant of the settings has a stored part
 pub stored_tenant-there : (b : StoredBook) (t : ℕ) → IsBook b → t < length b.settings.tenants → t < length b.store.stored_tenants

@@ -5,8 +5,4 @@ use Rattle.head_board.proofs.head_rows.HeadRows.set_next.Goals as goal
 pub invariant_of-self : goal.invariant_of-self
 invariant_of-self c =
     let more : c.self.inside.next ≤ c.args.next = search rules in
-    record {
-      rows = c.self.invariant.rows;
-      spare = c.self.invariant.spare;
-      ids = AreBelow-next c.self.inside.next c.args.next c.self.inside.rows.items more c.self.invariant.ids;
-    }
+    AreBelow-next c.self.inside.next c.args.next c.self.inside.list.rows more c.self.invariant

@@ -19,4 +19,5 @@ returns c =
       head = Put r.name row;
       is = chunk-head b r kept c.requires row refl;
       told = ap (option_map (λ (row : HeadRow). Put r.name (later row))) (chunk-stands b r kept c.requires);
+      texts = tt;
     }

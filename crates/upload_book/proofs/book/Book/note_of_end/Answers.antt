@@ -10,4 +10,5 @@ returns c =
       head = Gone c.args.ready.now.name;
       is = end-head c.args.self.now c.args.ready.now (subst IsBook c.self.view_is c.self.invariant) c.requires;
       told = refl;
+      texts = tt;
     }

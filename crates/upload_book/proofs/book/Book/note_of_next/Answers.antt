@@ -12,4 +12,5 @@ returns c now =
       head = Next (record { tenant = r.tenant; id = r.next });
       is = head-none (plain_of c.args.self.now) (piece.Next r.tenant r.next) now c.requires.accepted;
       told = refl;
+      texts = tt;
     }

@@ -12,4 +12,5 @@ returns c now =
       head = Totals;
       is = head-none (plain_of c.args.self.now) (piece.Totals r.released) now c.requires;
       told = refl;
+      texts = tt;
     }

@@ -15,5 +15,6 @@ returns c =
       line = line;
       is = is;
       told = note-told (heads_of (plain_of b)) c.noted.result c.noted.ensures.head c.accounts_after.result c.noted.ensures.told;
+      texts = c.noted.ensures.texts;
       leads = line-leads b step (step_moment step) line c.settings-lawful.ensures.lawful c.requires is;
     }
