@@ -1,4 +1,6 @@
 //! What metadata tells under a key, and media types.
+ghost use Rattle.std.specs.Prelude.{◌<◌};
+
 use crate::rows::assert_rows;
 use tus_text::{is_media_type, type_name, value_under};
 
@@ -61,17 +63,18 @@ fn media_types(rt: HostRuntime) {
     assert_rows(&rt, &TYPES, is_media);
 }
 
-// A letter, a slash and 254 letters.
-fn long_type() -> [u8; 256] {
-    let mut text = [b'a'; 256];
+// A letter, a slash and letters up to so many bytes.
+fn type_of<const N: usize>() -> [u8; N]
+    requires { 1 < N }
+{
+    let mut text = [b'a'; N];
     text[1] = b'/';
     text
 }
 
 #[test]
 fn media_types_of_many_bytes(rt: HostRuntime) {
-    let text = long_type();
-    assert!(rt; is_media_type(&text[..255]));
-    assert!(rt; !is_media_type(&text));
+    assert!(rt; is_media_type(&type_of::<255>()));
+    assert!(rt; !is_media_type(&type_of::<256>()));
     assert_eq!(&rt; type_name(b"Text/HTML ; a=b"), b"Text/HTML".as_slice());
 }
