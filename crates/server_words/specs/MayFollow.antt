@@ -1,5 +1,5 @@
 -- Which settings may follow those that a journal is of.
-use Rattle.std.specs.Prelude.{◌≡◌, ℕ, ◌+◌, ◌==◌, List, [], ◌∷◌, map, Option, Some, None, bytes_eq, if◌then◌else◌}
+use Rattle.std.specs.Prelude.{◌≡◌, ℕ, ◌+◌, ◌&&◌, ◌==◌, not, List, [], ◌∷◌, map, Option, Some, None, bytes_eq, if◌then◌else◌}
 use mathlib.Core.List.{IsPrefix}
 use Rattle.upload_book.specs.Settings.{Settings}
 use Rattle.upload_book.specs.declared.settings.TenantQuota.{TenantQuota}
@@ -44,6 +44,14 @@ abbrev pub first_difference : Settings → Settings → Option SettingsDifferenc
 first_difference old new =
     if old.numbers.lifetime == new.numbers.lifetime then finished_difference old new
     else Some (lifetimes old.numbers.lifetime new.numbers.lifetime)
+
+-- What first keeps the uploads of a journal from being put under new settings, if anything does: that finished ones stay by these,
+-- where they end by themselves in the journal, or a tenant.
+abbrev pub renewing_difference : Settings → Settings → Option SettingsDifference
+renewing_difference old new =
+    if new.numbers.finished_lifetime == 0 && not (old.numbers.finished_lifetime == 0)
+    then Some (finished_lifetimes old.numbers.finished_lifetime new.numbers.finished_lifetime)
+    else tenant_difference 1 old.tenants new.tenants
 
 -- what the program's value says
 abbrev pub difference_in : Difference → SettingsDifference

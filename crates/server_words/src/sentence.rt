@@ -4,7 +4,7 @@ ghost use Rattle.std.specs.List.{before_first, list_any};
 ghost use Rattle.arrayvec.specs.ArrayString.{array_string_len};
 ghost use Rattle.clap.specs.Walk.{texts};
 ghost use Rattle.server_words.specs.Arguments.{arguments_of};
-ghost use Rattle.server_words.specs.Sentences.{address_in, address_text, bounds_in, cause_text, difference_text, journal_in, journal_text, log_in, memory_text, memory_told, metrics_in, mismatch_text, name_twice, no_upload_text, numbers_in, outside_text, pool_text, port_in, port_text, ports_text, quota_text, reading_text, sentence_of, settings_text, shortage_text, shown, shown_byte, sum_text, tenant_words, tenants_text, twice_text, untold_text, upload_in, word_rule, word_text, wrong_word};
+ghost use Rattle.server_words.specs.Sentences.{finished_text, address_in, address_text, bounds_in, cause_text, difference_text, journal_in, journal_text, log_in, memory_text, memory_told, metrics_in, mismatch_text, name_twice, no_upload_text, numbers_in, outside_text, pool_text, port_in, port_text, ports_text, quota_text, reading_text, sentence_of, settings_text, shortage_text, shown, shown_byte, sum_text, tenant_words, tenants_text, twice_text, untold_text, upload_in, word_rule, word_text, wrong_word};
 ghost use Rattle.server_words.specs.Tenants.{is_colon};
 
 use crate::cause::{Cause, PortFault};

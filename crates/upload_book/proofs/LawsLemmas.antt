@@ -14,7 +14,7 @@ use Rattle.upload_book.specs.declared.head_row.Kind.{Kind}
 use Rattle.upload_book.specs.declared.head_row.Kind.TheVariants.{Plain, Partial, Final}
 use Rattle.upload_book.specs.declared.refusal.Refusal.{Refusal}
 use Rattle.upload_book.specs.declared.settings.Numbers.{Numbers}
-use Rattle.upload_book.specs.Expiry.{finished_end, has_end, has_expired, renewed}
+use Rattle.upload_book.specs.Expiry.{finished_end, has_expired, may_end, renewed}
 use Rattle.upload_book.specs.laws.Steps.{AccountsFollow, LastFinishes, ResumedPatch, RowsFollow, charged_after, first_part, later_part, row_in}
 use Rattle.upload_book.specs.Lawful.{IsUploadOf}
 use Rattle.upload_book.specs.Look.{row_of}
@@ -173,7 +173,7 @@ upload_with-two n account u chunk first later early now le whole finishes can =
         none
 
 -- an upload that is renewed has not expired, if it had not, where no bytes that finish it give it an end
-pub fresh_after : (n : Numbers) (kind : Kind) (was complete : Bool) (before : Option ℕ) (early now : ℕ) → has_expired now before ≡ false → is_some before ≡ has_end n kind was
+pub fresh_after : (n : Numbers) (kind : Kind) (was complete : Bool) (before : Option ℕ) (early now : ℕ) → has_expired now before ≡ false → may_end n kind was before ≡ true
     → (complete ≡ true → finished_end n early ≡ None) → has_expired now (renewed n kind was complete before early) ≡ false
 fresh_after n Plain true complete before early now fresh had none = fresh
 fresh_after n Plain false true before early now fresh had none = rw (none refl) refl

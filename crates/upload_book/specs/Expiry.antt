@@ -1,6 +1,6 @@
 -- When an upload expires (tus 1.0.0, Expiration): when it gets an end, when that is renewed, and when it has
 -- expired.
-use Rattle.std.specs.Prelude.{ℕ, ◌+◌, Bool, true, false, not, ◌||◌, max, min, nat_le, nat_lt, Option, Some, None, unwrap_or, if◌then◌else◌}
+use Rattle.std.specs.Prelude.{ℕ, ◌+◌, Bool, true, false, not, ◌||◌, max, min, nat_le, nat_lt, Option, Some, None, is_some, unwrap_or, if◌then◌else◌}
 use Rattle.std.specs.Option.{option_map_or}
 use Rattle.upload_book.specs.declared.head_row.Kind.{Kind}
 use Rattle.upload_book.specs.declared.head_row.Kind.TheVariants.{Plain, Partial, Final}
@@ -33,12 +33,18 @@ renewed n Plain false false before now = Some (max (unwrap_or before 0) (lifetim
 renewed n Partial was complete before now = Some (max (unwrap_or before 0) (lifetime_end n now))
 renewed n Final was complete before now = before
 
--- an upload of a kind, complete or not, has an end: a partial one always, one of its own until it is finished, and a finished
--- one where these end by themselves
-abbrev pub has_end : Numbers → Kind → Bool → Bool
-has_end n Plain complete = not complete || ends_finished n
-has_end n Partial complete = true
-has_end n Final complete = ends_finished n
+-- A finished upload may have this end, if any, where finished ones end by themselves: it has none where it was finished under
+-- numbers by which they stay. Where they stay it has none.
+abbrev pub may_end_finished : Numbers → Option ℕ → Bool
+may_end_finished n expires = ends_finished n || not (is_some expires)
+
+-- an upload of a kind, complete or not, may have this end, if any: a partial one always has one, one of its own until it is
+-- finished, and one that is finished as finished ones may
+abbrev pub may_end : Numbers → Kind → Bool → Option ℕ → Bool
+may_end n Plain true expires = may_end_finished n expires
+may_end n Plain false expires = is_some expires
+may_end n Partial complete expires = is_some expires
+may_end n Final complete expires = may_end_finished n expires
 
 -- an upload with this end, if any, has expired at a moment: from the end on
 abbrev pub has_expired : ℕ → Option ℕ → Bool

@@ -1,5 +1,5 @@
 -- What every book that steps reach keeps.
-use Rattle.std.specs.Prelude.{◌≡◌, ℕ, ◌+◌, ◌<◌, ◌≤◌, Bool, true, List, [], length, flat_map, map, zip, Some, is_some, IfSome, IsTrue, All, Contains, codes}
+use Rattle.std.specs.Prelude.{◌≡◌, ℕ, ◌+◌, ◌<◌, ◌≤◌, Bool, true, List, [], length, flat_map, map, zip, Some, IfSome, IsTrue, All, Contains, codes}
 use Rattle.std.specs.List.{sum_by}
 use Rattle.std.specs.List.Sorted.{IsStrictlyIncreasing}
 use Rattle.tus_text.specs.Concat.{concat_of}
@@ -11,7 +11,7 @@ use Rattle.upload_book.specs.declared.head_row.Kind.TheVariants.{Plain, Partial,
 use Rattle.upload_book.specs.declared.settings.Numbers.{Numbers}
 use Rattle.upload_book.specs.declared.settings.TenantQuota.{TenantQuota}
 use Rattle.upload_book.specs.Charge.{charge_in}
-use Rattle.upload_book.specs.Expiry.{has_end}
+use Rattle.upload_book.specs.Expiry.{may_end}
 use Rattle.upload_book.specs.Settings.{AreSound}
 use Rattle.upload_book.specs.Upload.{Upload, content_of, is_complete, offset_of, IsComplete}
 use Rattle.upload_book.specs.TenantBook.{Entry, TenantBook, kept_in}
@@ -57,13 +57,13 @@ IsOfKind part u Plain = IsWhole u
 IsOfKind part u Partial = IsWhole u
 IsOfKind part u Final = HasParts part u × IsComplete u
 
--- an upload is within its length and the greatest size, and as its kind asks; it has an end exactly where one is due; and its
--- texts are of their forms
+-- an upload is within its length and the greatest size, and as its kind asks; it may have its end; and its texts are of their
+-- forms
 pub record IsUploadOf (n : Numbers) (part : TenantBook) (u : Upload) : Type 0 where
   pub within : IfSome u.declared (λ declared. (offset_of u ≤ declared) × (declared ≤ n.max_size))
   pub size : offset_of u ≤ n.max_size
   pub kind : IsOfKind part u u.kind
-  pub ends : is_some u.expires ≡ has_end n u.kind (is_complete u)
+  pub ends : may_end n u.kind (is_complete u) u.expires ≡ true
   pub metadata : IsTrue (is_kept_metadata u.metadata)
   pub concat : IsConcatText u.kind u.concat
 

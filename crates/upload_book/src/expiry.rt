@@ -1,6 +1,6 @@
 //! When an upload expires (tus 1.0.0, Expiration).
 ghost use Rattle.std.specs.Prelude.{◌≡◌, max, unwrap_or};
-ghost use Rattle.upload_book.specs.Expiry.{finished_end, has_end, has_expired, lifetime_end, renewed};
+ghost use Rattle.upload_book.specs.Expiry.{finished_end, has_expired, lifetime_end, may_end, renewed};
 
 use crate::head_row::Kind;
 use crate::moment::Moment;
@@ -56,14 +56,14 @@ fn later_end(before: Option<Moment>, end: Moment) -> Moment
     }
 }
 
-/// Whether an upload of this kind, complete or not, has an end.
-pub fn has_end(numbers: &Numbers, kind: Kind, is_complete: bool) -> bool
-    ensures { result ≡ has_end numbers.now kind is_complete }
+/// Whether an upload of this kind, complete or not, may have this end.
+pub fn may_end(numbers: &Numbers, kind: Kind, is_complete: bool, expires: Option<Moment>) -> bool
+    ensures { result ≡ may_end numbers.now kind is_complete expires }
 {
     match kind {
-        Kind::Plain => !is_complete || numbers.finished_lifetime > 0,
-        Kind::Partial => true,
-        Kind::Final => numbers.finished_lifetime > 0,
+        Kind::Plain if !is_complete => expires.is_some(),
+        Kind::Partial => expires.is_some(),
+        Kind::Plain | Kind::Final => numbers.finished_lifetime > 0 || expires.is_none(),
     }
 }
 

@@ -1,6 +1,6 @@
 use crate::concat::NewFinal;
 use crate::create::{Created, NewUpload};
-use crate::expiry::has_end;
+use crate::expiry::may_end;
 use crate::final_back::brought_in;
 use crate::head_note::Growth;
 use crate::head_row::{Kind, Name};
@@ -124,12 +124,12 @@ impl<'a> RestoredUpload<'a> {
         }
     }
 
-    /// Whether it has an end exactly where one is due, where it is complete or not; a final one has to be complete.
+    /// Whether it may have its end, where it is complete or not; a final one has to be complete.
     pub(crate) fn ends_rightly(&self, numbers: &Numbers, complete: bool) -> bool
         ensures { result ≡ ends_rightly numbers.now self.now.kind complete self.now.expires }
     {
-        let ends = has_end(numbers, self.kind, complete);
-        self.expires.is_some() == ends && (complete || self.kind != Kind::Final)
+        may_end(numbers, self.kind, complete, self.expires)
+            && (complete || self.kind != Kind::Final)
     }
 
     /// Its name, as one of the tenant at this place, and its end.

@@ -1,5 +1,5 @@
 -- A PATCH leaves a lawful book lawful.
-use Rattle.std.proofs.Common.{◌≡◌, ℕ, ◌+◌, ◌<◌, ◌≤◌, ◌⊎◌, Bool, true, false, cond, not, eqb, ltb, List, [], ◌++◌, length, get_or, Option, Some, None, unwrap_or, is_some, IfSome, refl, inl, inr, sym, ap, ◌∙◌, arith}
+use Rattle.std.proofs.Common.{◌≡◌, ℕ, ◌+◌, ◌<◌, ◌≤◌, ◌⊎◌, ◌||◌, Bool, true, false, cond, not, eqb, ltb, List, [], ◌++◌, length, get_or, Option, Some, None, unwrap_or, is_some, IfSome, refl, inl, inr, sym, ap, ◌∙◌, arith}
 use Rattle.std.specs.List.{All}
 use Rattle.std.proofs.Math.ListN.{length-map, length-append}
 use Rattle.std.proofs.lemmas.Bool.Decides.{eqb_tells, nat_tests}
@@ -14,7 +14,7 @@ use Rattle.upload_book.specs.declared.board_line.Account.{Account}
 use Rattle.upload_book.specs.declared.head_row.Kind.{Kind}
 use Rattle.upload_book.specs.declared.head_row.Kind.TheVariants.{Plain, Partial, Final}
 use Rattle.upload_book.specs.declared.settings.Numbers.{Numbers}
-use Rattle.upload_book.specs.Expiry.{ends_finished, finished_end, has_end, later_by, renewed}
+use Rattle.upload_book.specs.Expiry.{ends_finished, finished_end, later_by, may_end, may_end_finished, renewed}
 use Rattle.upload_book.specs.Lawful.{IsTenantOf, IsUploadOf, IsOfKind, IsWhole, IsGivenIn, IsSegmentOf}
 use Rattle.upload_book.specs.TenantBook.{Entry, TenantBook, kept_in, with_changed}
 use Rattle.upload_book.specs.Upload.{Upload, content_of, offset_of, is_reached, is_complete, IsComplete, head_row_of}
@@ -123,18 +123,18 @@ pub complete_known : (known told : Option ℕ) (end : ℕ) → is_reached known 
 complete_known None told end is = absurd (true≢false (sym is))
 complete_known (Some most) told end is = is
 
--- a finished upload has an end where finished ones do
-pub some-finished : (n : Numbers) (now : ℕ) → is_some (finished_end n now) ≡ ends_finished n
-some-finished n now = some-if (ends_finished n) (later_by now n.finished_lifetime) where
-  some-if : (ends : Bool) (end : ℕ) → is_some (cond ends (Some end) None) ≡ ends
-  some-if true end = refl
-  some-if false end = refl
+-- a finished upload may have the end that it gets
+pub may-finished : (n : Numbers) (now : ℕ) → may_end_finished n (finished_end n now) ≡ true
+may-finished n now = may-if (ends_finished n) (later_by now n.finished_lifetime) where
+  may-if : (ends : Bool) (end : ℕ) → (ends || not (is_some (cond ends (Some end) None))) ≡ true
+  may-if true end = refl
+  may-if false end = refl
 
--- an upload that is touched has an end where one is due, if it had
-pub ends-renewed : (n : Numbers) (kind : Kind) (was complete : Bool) (before : Option ℕ) (now : ℕ) → is_final kind ≡ false → (was ≡ true → complete ≡ true) → (was ≡ true → is_some before ≡ has_end n kind true)
-    → is_some (renewed n kind was complete before now) ≡ has_end n kind complete
-ends-renewed n Plain true complete before now own stays had = had refl ∙ ap (has_end n Plain) (sym (stays refl))
-ends-renewed n Plain false true before now own stays had = some-finished n now
+-- an upload that is touched may have its end, if it could before
+pub ends-renewed : (n : Numbers) (kind : Kind) (was complete : Bool) (before : Option ℕ) (now : ℕ) → is_final kind ≡ false → (was ≡ true → complete ≡ true) → (was ≡ true → may_end n kind true before ≡ true)
+    → may_end n kind complete (renewed n kind was complete before now) ≡ true
+ends-renewed n Plain true complete before now own stays had = ap (λ complete. may_end n Plain complete before) (stays refl) ∙ had refl
+ends-renewed n Plain false true before now own stays had = may-finished n now
 ends-renewed n Plain false false before now own stays had = refl
 ends-renewed n Partial was complete before now own stays had = refl
 ends-renewed n Final was complete before now own stays had = absurd (cc)
@@ -159,15 +159,15 @@ IsUploadOf-append n account part later u chunk now can sound =
     let end = offset_of-append n u chunk now in
     let whole = IsWhole-from_kind part u.kind u can.own sound.kind in
     let declared = or_else u.declared chunk.length in
-    let ends : is_some after.expires ≡ has_end n u.kind (is_reached declared (offset_of u + length chunk.bytes)) =
+    let ends : may_end n u.kind (is_reached declared (offset_of u + length chunk.bytes)) after.expires ≡ true =
     ends-renewed n u.kind (is_complete u) (is_reached declared (offset_of u + length chunk.bytes)) u.expires now can.own
     (λ was. complete_later n declared (offset_of u) (offset_of u + length chunk.bytes) (omega arith) can.fits (complete_known u.declared chunk.length (offset_of u) was))
-    (λ was. sound.ends ∙ ap (has_end n u.kind) was) in
+    (λ was. ap (λ complete. may_end n u.kind complete u.expires) (sym was) ∙ sound.ends) in
     record {
       within = rw end within.0;
       size = rw end within.1;
       kind = IsOfKind-whole later u.kind after can.own (record { segment = refl; parts = whole.parts });
-      ends = ends ∙ ap (λ offset. has_end n u.kind (is_reached declared offset)) (sym end);
+      ends = ap (λ offset. may_end n u.kind (is_reached declared offset) after.expires) end ∙ ends;
       metadata = sound.metadata;
       concat = sound.concat;
     }

@@ -24,7 +24,7 @@ use Rattle.upload_book.proofs.Charge.ChargeLemmas.{sources-given}
 use Rattle.upload_book.proofs.Charge.InUse.{Contains-mapped}
 use Rattle.upload_book.proofs.Lawful.Entries.{kept_in-All, kept_in-contains, kept_in-push, visible_in-fresh, visible_in-Ok}
 use Rattle.upload_book.proofs.Lawful.FirstRefusal.{test-passed}
-use Rattle.upload_book.proofs.Lawful.LawfulAppend.{IsWhole-from_kind, complete_tells, some-finished}
+use Rattle.upload_book.proofs.Lawful.LawfulAppend.{IsWhole-from_kind, complete_tells, may-finished}
 use Rattle.upload_book.proofs.Lawful.LawfulSteps.{HasSharedParts, IsTenantOf-with_new}
 use Rattle.upload_book.proofs.Lawful.SharedLemmas.{joined-stand}
 use Rattle.upload_book.proofs.Charge.PriceLemmas.{charge-stays, price-entry, sources-own}
@@ -172,7 +172,7 @@ IsUploadOf-final n part new now can asked =
       within = (omega (arith, len), can.small);
       size = omega (arith, len, can.small);
       kind = (HasParts-final part found new end (omega (arith, can.there, asked.some)) (omega (arith, can.there, asked.few)) can.found can.complete, ap Some (sym len));
-      ends = some-finished n now;
+      ends = may-finished n now;
       metadata = asked.metadata;
       concat = asked.concat;
     }

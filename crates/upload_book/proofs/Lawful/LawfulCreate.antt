@@ -1,5 +1,5 @@
 -- A creation leaves a tenant's part as it should be.
-use Rattle.std.proofs.Common.{◌≡◌, ℕ, ◌+◌, ◌<◌, ◌≤◌, Bool, true, false, not, ltb, leb, List, length, None, is_some, true≢false, unwrap_or, IsTrue, refl, sym, ap, ◌∙◌, arith}
+use Rattle.std.proofs.Common.{◌≡◌, ℕ, ◌+◌, ◌<◌, ◌≤◌, Bool, true, false, not, ltb, leb, List, length, None, true≢false, unwrap_or, IsTrue, refl, sym, ap, ◌∙◌, arith}
 use Rattle.std.specs.Prelude.{◌||◌}
 use Rattle.std.proofs.lemmas.Bool.Decides.{nat_tests}
 use Rattle.std.proofs.lemmas.List.{append-nil}
@@ -9,7 +9,7 @@ use Rattle.upload_book.specs.Checksum.{is_mismatch, is_of_other_algorithm}
 use Rattle.upload_book.specs.Create.{creation_refusal, created_upload, new_kind}
 use Rattle.upload_book.specs.declared.board_line.Account.{Account}
 use Rattle.upload_book.specs.declared.settings.Numbers.{Numbers}
-use Rattle.upload_book.specs.Expiry.{has_end}
+use Rattle.upload_book.specs.Expiry.{may_end}
 use Rattle.upload_book.specs.FirstChunk.{FirstChunk, count_all_first}
 use Rattle.upload_book.specs.Lawful.{IsTenantOf, IsUploadOf, IsConcatText, is_kept_metadata}
 use Rattle.upload_book.specs.NewUpload.{NewUpload}
@@ -89,13 +89,13 @@ IsUploadOf-create n part new bytes now fits texts =
     let u : Upload = created_upload n new bytes now in
     let end : offset_of u ≡ length bytes = ap (length {A = ℕ}) (append-nil bytes) in
     let within = ends_within n new.length (length bytes) fits in
-    let ends : is_some u.expires ≡ has_end n (new_kind new.partial) (is_reached new.length (length bytes)) =
+    let ends : may_end n (new_kind new.partial) (is_reached new.length (length bytes)) u.expires ≡ true =
     ends-renewed n (new_kind new.partial) false (is_reached new.length (length bytes)) None now (new-own new.partial) (λ was. absurd (true≢false (sym was))) (λ was. absurd (true≢false (sym was))) in
     record {
       within = rw end within.0;
       size = rw end within.1;
       kind = IsOfKind-whole part (new_kind new.partial) u (new-own new.partial) (record { segment = refl; parts = refl });
-      ends = ends ∙ ap (λ offset. has_end n (new_kind new.partial) (is_reached new.length offset)) (sym end);
+      ends = ap (λ offset. may_end n (new_kind new.partial) (is_reached new.length offset) u.expires) end ∙ ends;
       metadata = texts.metadata;
       concat = texts.concat;
     }

@@ -14,11 +14,11 @@ use Rattle.upload_book.specs.declared.head_row.Kind.{Kind}
 use Rattle.upload_book.specs.declared.head_row.Kind.TheVariants.{Plain, Partial, Final}
 use Rattle.upload_book.specs.declared.refusal.Refusal.{Refusal}
 use Rattle.upload_book.specs.declared.settings.Numbers.{Numbers}
-use Rattle.upload_book.specs.Expiry.{has_end}
+use Rattle.upload_book.specs.Expiry.{may_end}
 use Rattle.upload_book.specs.Lawful.{HasParts, IsGivenIn, IsLawful, IsOfKind, IsSegmentOf, IsTenantOf, IsUploadOf, IsWhole, joined_in}
 use Rattle.upload_book.specs.PlainBook.{PlainBook, tenant_book, with_tenant_book}
 use Rattle.upload_book.specs.Refusal.{first_that_holds}
-use Rattle.upload_book.specs.snapshot.Restore.{CanBePutBack, HasSegments, IsRestorable, agree, book_after_piece, book_with, bytes_back, bytes_from, charged_with, ends_rightly, may_be_part, next_tests, part_with, piece_refusal, refusal_with, restore_refusal, restore_tests, sent_back, sent_in, sent_of, totals_tests, upload_back, with_back}
+use Rattle.upload_book.specs.snapshot.Restore.{CanBePutBack, HasSegments, IsRestorable, book_after_piece, book_with, bytes_back, bytes_from, charged_with, ends_rightly, may_be_part, next_tests, part_with, piece_refusal, refusal_with, restore_refusal, restore_tests, sent_back, sent_in, sent_of, totals_tests, upload_back, with_back}
 use Rattle.upload_book.specs.declared.restored.Restored.TheVariants as piece
 use Rattle.upload_book.specs.declared.restored.Restored.{Restored}
 use Rattle.upload_book.specs.snapshot.Restored.{RestoredSegment, RestoredUpload}
@@ -235,19 +235,14 @@ own-sent-one : (standing : List Segment) (id : ℕ) (segments : List RestoredSeg
 own-sent-one standing id segments sent form is =
     length-map sent (λ (s : Segment). s.1) ∙ sent-length standing segments sent is ∙ ap length form.1
 
--- it has an end exactly where one is due
-agree-tells : (a b : Bool) → agree a b ≡ true → a ≡ b
-agree-tells true b same = sym same
-agree-tells false true same = absurd (cc)
-agree-tells false false same = refl
-
-ends-due : (n : Numbers) (kind : Kind) (complete : Bool) (expires : Option ℕ) → ends_rightly n kind complete expires ≡ true → is_some expires ≡ has_end n kind complete
-ends-due n kind complete expires ends = agree-tells _ _ (and_parts (agree (is_some expires) (has_end n kind complete)) (complete || not (is_final kind)) ends).0
+-- it may have its end
+ends-may : (n : Numbers) (kind : Kind) (complete : Bool) (expires : Option ℕ) → ends_rightly n kind complete expires ≡ true → may_end n kind complete expires ≡ true
+ends-may n kind complete expires ends = (and_parts (may_end n kind complete expires) (complete || not (is_final kind)) ends).0
 
 -- and a final one is complete
 pub final-complete : (n : Numbers) (complete : Bool) (expires : Option ℕ) → ends_rightly n Final complete expires ≡ true → complete ≡ true
 final-complete n true expires ends = refl
-final-complete n false expires ends = absurd (true≢false (sym (and_parts (agree (is_some expires) (has_end n Final false)) false ends).1))
+final-complete n false expires ends = absurd (true≢false (sym (and_parts (may_end n Final false expires) false ends).1))
 
 -- the segments of a final one are those with its parts
 pub zip-sent : (sent : List (ℕ × List ℕ)) → zip (map {A = ℕ × List ℕ} {B = ℕ} (λ s. s.0) sent) (map {A = ℕ × List ℕ} {B = List ℕ} (λ s. s.1) sent) ≡ sent
@@ -356,7 +351,7 @@ module _ (n : Numbers) (charged : ℕ) (part : TenantBook) (r : RestoredUpload) 
   upload-sound : IsUploadOf n later u
   upload-sound =
       let within = ends_within n u.declared (offset_of u) back.can.fits in
-      record { within = within.0; size = within.1; kind = of-kind r.kind refl; ends = ends-due n u.kind (is_complete u) u.expires back.can.ends; metadata = form.metadata; concat = form.concat }
+      record { within = within.0; size = within.1; kind = of-kind r.kind refl; ends = ends-may n u.kind (is_complete u) u.expires back.can.ends; metadata = form.metadata; concat = form.concat }
 
 -- a later next id leaves a part as it should be
 pub IsTenantOf-next : (n : Numbers) (part : TenantBook) (next : ℕ) → part.next ≤ next → next ≤ n.last_id + 1 → IsTenantOf n part → IsTenantOf n (with_next part next)

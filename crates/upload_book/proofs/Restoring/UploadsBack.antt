@@ -19,7 +19,7 @@ use Rattle.upload_book.specs.declared.refusal.Refusal.TheVariants.{Field, TooLon
 use Rattle.upload_book.specs.declared.settings.Numbers.{Numbers}
 use Rattle.upload_book.specs.Lawful.{HasParts, IsOfKind, IsSegmentOf, IsTenantOf, IsUploadOf}
 use Rattle.upload_book.specs.Refusal.{first_that_holds}
-use Rattle.upload_book.specs.snapshot.Restore.{IsRestorable, agree, ends_rightly, may_be_part, part_with, refusal_with, restore_refusal, restore_tests, sent_back, sent_in, sent_of, upload_back, with_back}
+use Rattle.upload_book.specs.snapshot.Restore.{IsRestorable, ends_rightly, may_be_part, part_with, refusal_with, restore_refusal, restore_tests, sent_back, sent_in, sent_of, upload_back, with_back}
 use Rattle.upload_book.specs.snapshot.Snapshot.{segments_kept, upload_kept}
 use Rattle.upload_book.specs.Stored.{parts_of}
 use Rattle.upload_book.specs.TenantBook.{Entry, TenantBook, kept_in}
@@ -83,12 +83,8 @@ whole-kind part u Plain sound = open-own (is_complete u)
 whole-kind part u Partial sound = open-own (is_complete u)
 whole-kind part u Final sound = rw (is-complete u sound.1) refl
 
-agree-same : (a b : Bool) → a ≡ b → agree a b ≡ true
-agree-same true b same = sym same
-agree-same false b same = ap not (sym same)
-
 ends-kind : (n : Numbers) (part : TenantBook) (u : Upload) → IsUploadOf n part u → ends_rightly n u.kind (is_complete u) u.expires ≡ true
-ends-kind n part u sound = both _ _ (agree-same _ _ sound.ends) (whole-kind part u u.kind sound.kind)
+ends-kind n part u sound = both _ _ sound.ends (whole-kind part u u.kind sound.kind)
 
 list_all-from : {X : Type 0} (test : X → Bool) (xs : List X) → All (λ x. test x ≡ true) xs → list_all test xs ≡ true
 list_all-from test [] all = refl

@@ -1,5 +1,5 @@
 -- How a book is put back from a snapshot of it, piece by piece: what a piece is, when it is accepted, and the book after it.
-use Rattle.std.specs.Prelude.{◌≡◌, ℕ, ◌+◌, ◌-◌, ◌<◌, ◌≤◌, Bool, true, false, not, ◌&&◌, ◌||◌, List, [], ◌∷◌, ◌++◌, flat_map, length, map, zip, nat_lt, nat_le, ◌==◌, Option, Some, None, is_some, option_and_then, option_map, unwrap_or, IsTrue, All, if◌then◌else◌, ⊤}
+use Rattle.std.specs.Prelude.{◌≡◌, ℕ, ◌+◌, ◌-◌, ◌<◌, ◌≤◌, Bool, true, false, not, ◌&&◌, ◌||◌, List, [], ◌∷◌, ◌++◌, flat_map, length, map, zip, nat_lt, nat_le, ◌==◌, Option, Some, None, option_and_then, option_map, unwrap_or, IsTrue, All, if◌then◌else◌, ⊤}
 use Rattle.std.specs.List.{list_all}
 use Rattle.std.specs.Option.{option_map_or}
 use Rattle.upload_book.specs.Append.{is_final, is_too_long}
@@ -10,7 +10,7 @@ use Rattle.upload_book.specs.declared.head_row.Kind.TheVariants.{Plain, Partial,
 use Rattle.upload_book.specs.declared.refusal.Refusal.{Refusal}
 use Rattle.upload_book.specs.declared.refusal.Refusal.TheVariants.{Field, TooLong, Part, PartOpen, Uploads, Spent, Quota}
 use Rattle.upload_book.specs.declared.settings.Numbers.{Numbers}
-use Rattle.upload_book.specs.Expiry.{has_end}
+use Rattle.upload_book.specs.Expiry.{may_end}
 use Rattle.upload_book.specs.Lawful.{IsConcatText, is_kept_metadata}
 use Rattle.upload_book.specs.PlainBook.{PlainBook, tenant_book, with_tenant_book}
 use Rattle.upload_book.specs.Refusal.{first_that_holds}
@@ -86,14 +86,9 @@ upload_back r sent = record {
 abbrev pub with_back : TenantBook → ℕ → Upload → TenantBook
 with_back part id u = with_new (with_next part id) u
 
--- both hold, or neither
-abbrev pub agree : Bool → Bool → Bool
-agree true holds = holds
-agree false holds = not holds
-
--- whether an upload has an end exactly where one is due, and is complete where it is a final one
+-- whether an upload may have its end, and is complete where it is a final one
 abbrev pub ends_rightly : Numbers → Kind → Bool → Option ℕ → Bool
-ends_rightly n kind complete expires = agree (is_some expires) (has_end n kind complete) && (complete || not (is_final kind))
+ends_rightly n kind complete expires = may_end n kind complete expires && (complete || not (is_final kind))
 
 -- what stands under the id of a part of a final upload, if anything does, is a partial upload with all of its bytes
 abbrev pub may_be_part : TenantBook → ℕ → Bool
