@@ -10,6 +10,7 @@ no_settings = record {
     blocks = 0;
     block_size = 0;
     lifetime = 0;
+    finished_lifetime = 0;
     max_size = 0;
     uploads = 0;
     last_id = 0;

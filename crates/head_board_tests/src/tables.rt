@@ -167,6 +167,7 @@ pub fn narrow(uploads: u64, last_id: u64) -> Result<Settings, Fail> {
         blocks: 12,
         block_size: 4,
         lifetime: 3600,
+        finished_lifetime: 0,
         max_size: 64,
         uploads,
         last_id,

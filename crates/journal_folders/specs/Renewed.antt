@@ -8,7 +8,7 @@ use Rattle.journal_frames.specs.Frames.{Fits, frames}
 use Rattle.upload_book.specs.PlainBook.{PlainBook, opening_book}
 use Rattle.upload_book.specs.Settings.{Settings}
 use Rattle.server_words.specs.JournalFault.{IsOfSystem, IsUnread}
-use Rattle.server_words.specs.MayFollow.{difference_in, names_of, tenant_difference}
+use Rattle.server_words.specs.MayFollow.{difference_in, names_of, renewing_difference}
 use Rattle.server_words.specs.declared.difference.Difference.{Difference}
 use Rattle.server_words.specs.declared.fault.RunFault.{RunFault}
 use Rattle.server_words.specs.declared.fault.RunFault.TheVariants as run
@@ -43,11 +43,11 @@ module _ (journal settings : List ℕ) where
       pub after : PlainBook
       pub replays : replayed 1 (opening_book new) (snapshot_records 0 snapshot.book) ≡ Ok after
 
-    -- a tenant of the journal has not its place in the new settings
+    -- finished uploads stay by the new settings and end by themselves in the journal, or a tenant of it has not its place there
     pub record IsMoved (difference : Difference) : Type 0 where
       pub old : Settings
       pub gives : Gives settings (Some old)
-      pub differs : tenant_difference 1 old.tenants new.tenants ≡ Some (difference_in difference)
+      pub differs : renewing_difference old new ≡ Some (difference_in difference)
 
     -- more stands in the book than the new settings allow
     pub record IsTooSmall (shortage : Shortage) : Type 0 where

@@ -15,7 +15,7 @@ use crate::shortage::shortage_in;
 use book_replay::{replay, snapshot_records};
 use journal_file::{Draft, Journal, JournalError, JournalPlace};
 use journal_frames::{Frames, HEADER_LEN, push_frame};
-use server_words::{JournalFault, Mismatch, RunFault, settings_text, tenant_difference};
+use server_words::{JournalFault, Mismatch, RunFault, renewing_difference, settings_text};
 use sqlite_disk::Disk;
 use std::alloc::{AllocError, Global};
 use upload_book::{Moment, Settings};
@@ -25,8 +25,8 @@ use upload_book::{Moment, Settings};
 /// not what once stood, and each upload has the end that it had.
 ///
 /// The error is that of [`Journals::open`] or [`Journals::read`], or what is wrong with the files
-/// ([`crate::reading::make_of`]). It is Settings with Differs where a tenant of the journal has not its place in these settings,
-/// and with TooSmall where more stands than these allow; both leave all as it was. It is Disk where the snapshot could not be
+/// ([`crate::reading::make_of`]). It is Settings with Differs where finished uploads stay by these settings and end by
+/// themselves in the journal, or a tenant of the journal has not its place in these settings, and with TooSmall where more stands than these allow; both leave all as it was. It is Disk where the snapshot could not be
 /// written and put in place, or the settings not put: then the journal makes the same uploads as before, under either settings.
 pub fn open_renewed<J: Journals>(
     journals: &J,
@@ -113,7 +113,7 @@ fn snapshot_of(
     ensures of_journal { IfErr result IsOfJournal }
 {
     let old = journal_settings(alloc, &files.settings)?;
-    if let Some(difference) = tenant_difference(&old, settings) {
+    if let Some(difference) = renewing_difference(&old, settings) {
         return Err(RunFault::Journal(JournalFault::Settings(Mismatch::Differs(difference))));
     }
     let made = make_of(alloc, files)?;

@@ -5,11 +5,12 @@ use Rattle.upload_book.specs.declared.settings_fault.SettingsFault.TheVariants a
 use Rattle.upload_book.specs.Settings.{fault_word}
 
 -- no word of the settings' faults is long
-pub short_word : (fault : SettingsFault) → length (fault_word fault) ≤ 10
+pub short_word : (fault : SettingsFault) → length (fault_word fault) ≤ 17
 short_word settings.Blocks = omega arith
 short_word settings.BlockSize = omega arith
 short_word settings.PoolBytes = omega arith
 short_word settings.Lifetime = omega arith
+short_word settings.FinishedLifetime = omega arith
 short_word settings.MaxSize = omega arith
 short_word settings.Uploads = omega arith
 short_word settings.LastId = omega arith

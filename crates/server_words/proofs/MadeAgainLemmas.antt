@@ -7,7 +7,7 @@ use Rattle.upload_book.specs.Account.{account_in}
 use Rattle.upload_book.specs.Append.{append_answer, append_refusal, part_after_append, upload_with}
 use Rattle.upload_book.specs.Change.{appended_in, book_after_change, change_answer, outcome_in}
 use Rattle.upload_book.specs.Chunk.{Chunk}
-use Rattle.upload_book.specs.Concat.{concat_answer, concat_refusal, final_upload, part_after_concat, parts_found}
+use Rattle.upload_book.specs.Concat.{concat_answer, concat_refusal, final_upload, joined_upload, part_after_concat, parts_found}
 use Rattle.upload_book.specs.Create.{create_answer, created_upload, creation_refusal, part_after_create}
 use Rattle.upload_book.specs.declared.change.Change.{Change}
 use Rattle.upload_book.specs.declared.change.Change.TheVariants as change
@@ -20,6 +20,7 @@ use Rattle.upload_book.specs.declared.restored.Restored.TheVariants as piece
 use Rattle.upload_book.specs.declared.settings.Numbers.{Numbers}
 use Rattle.upload_book.specs.declared.settings.TenantQuota.{TenantQuota}
 use Rattle.upload_book.specs.Events.{ChangeEvent, book_after_all, book_after_event}
+use Rattle.upload_book.specs.Expiry.{finished_end}
 use Rattle.upload_book.specs.FirstChunk.{FirstChunk}
 use Rattle.upload_book.specs.NewFinal.{NewFinal}
 use Rattle.upload_book.specs.NewUpload.{NewUpload}
@@ -57,13 +58,18 @@ accepted : (r : Option Refusal) (x : Created) → IsOk (outcome_in outcome.Creat
 accepted None x ok = refl
 accepted (Some why) x ok = absurd cc
 
-module _ (n m : Numbers) (p q : TenantBook) (lifetime : m.lifetime ≡ n.lifetime) (same : IsSamePart p q) (now c d : ℕ) where
+-- numbers that give uploads the same ends
+record HasSameEnds (n m : Numbers) : Type 0 where
+  lifetime : m.lifetime ≡ n.lifetime
+  finished : m.finished_lifetime ≡ n.finished_lifetime
+
+module _ (n m : Numbers) (p q : TenantBook) (ends : HasSameEnds n m) (same : IsSamePart p q) (now c d : ℕ) where
   after_create : (t : ℕ) (new : NewUpload) (first : FirstChunk) → IsOk (outcome_in outcome.Created (create_answer t new first now c n p)) → IsOk (outcome_in outcome.Created (create_answer t new first now d m q))
       → IsSamePart (part_after_create new first now c n p) (part_after_create new first now d m q)
   after_create t new first was is =
       let before = part_after_create-none n p new first now c (accepted (creation_refusal n (account_in n p c) p new first) _ was) in
       let after = part_after_create-none m q new first now d (accepted (creation_refusal m (account_in m q d) q new first) _ is) in
-      let made = ap (λ (lifetime : ℕ). created_upload (record n { lifetime = lifetime }) new first.bytes now) lifetime in
+      let made = ap₂ (λ (lifetime finished : ℕ). created_upload (record n { lifetime = lifetime; finished_lifetime = finished }) new first.bytes now) ends.lifetime ends.finished in
       subst (λ (x : TenantBook). IsSamePart x (part_after_create new first now d m q)) (sym before)
       (subst (λ (x : TenantBook). IsSamePart (with_new p (created_upload n new first.bytes now)) x) (sym after) (same_new p q _ _ same made))
 
@@ -73,8 +79,8 @@ module _ (n m : Numbers) (p q : TenantBook) (lifetime : m.lifetime ≡ n.lifetim
       let after = part_after_concat-none m q new now (accepted (concat_refusal m q new now) _ is) in
       let found = told (λ (x : TenantBook). parts_found x now new.parts) p q refl refl same in
       subst (λ (x : TenantBook). IsSamePart x (part_after_concat new now m q)) (sym before)
-      (subst (λ (x : TenantBook). IsSamePart (with_new p (final_upload (parts_found p now new.parts) new)) x) (sym after)
-      (same_new p q _ _ same (ap (λ (parts : List (Entry Upload)). final_upload parts new) found)))
+      (subst (λ (x : TenantBook). IsSamePart (with_new p (joined_upload n p new now)) x) (sym after)
+      (same_new p q _ _ same (ap₂ (λ (parts : List (Entry Upload)) (finished : ℕ). final_upload parts new (finished_end (record n { finished_lifetime = finished }) now)) found ends.finished)))
 
   seen : (id : ℕ) → visible_upload q id now ≡ visible_upload p id now
   seen id = told (λ (x : TenantBook). visible_upload x id now) p q refl refl same
@@ -105,16 +111,17 @@ is_appended id chunk now charged n part ok = go (visible_upload part id now) ref
     go (Ok u) is = by u is (append_refusal n (account_in n part charged) (head_row_of u) chunk) refl
     go (Err why) is = let not = rw is at ok in absurd cc
 
-after_append : (n m : Numbers) (p q : TenantBook) → m.lifetime ≡ n.lifetime → IsSamePart p q → (now c d id : ℕ) (chunk : Chunk) → IsOk (appended_in (append_answer id chunk now c n p)) → IsOk (appended_in (append_answer id chunk now d m q))
+after_append : (n m : Numbers) (p q : TenantBook) → HasSameEnds n m → IsSamePart p q → (now c d id : ℕ) (chunk : Chunk) → IsOk (appended_in (append_answer id chunk now c n p)) → IsOk (appended_in (append_answer id chunk now d m q))
     → IsSamePart (part_after_append id chunk now c n p) (part_after_append id chunk now d m q)
-after_append n m p q lifetime same now c d id chunk was is =
+after_append n m p q ends same now c d id chunk was is =
     let a = is_appended id chunk now c n p was in
     let b = is_appended id chunk now d m q is in
     let before = part_after_append-none n p id now c a.0 chunk a.1 a.2 in
     let after = part_after_append-none m q id now d b.0 chunk b.1 b.2 in
     let seen : visible_upload q id now ≡ visible_upload p id now = told (λ (x : TenantBook). visible_upload x id now) p q refl refl same in
     let same_upload : b.0 ≡ a.0 = one (sym b.1 ∙ seen ∙ a.1) in
-    let made = ap₂ (λ (lifetime : ℕ) (u : Upload). upload_with (record n { lifetime = lifetime }) u chunk now) lifetime same_upload in
+    let upload : ℕ → ℕ → Upload → Upload = λ lifetime finished u. upload_with (record n { lifetime = lifetime; finished_lifetime = finished }) u chunk now in
+    let made = ap₂ (λ (lifetime finished : ℕ). upload lifetime finished b.0) ends.lifetime ends.finished ∙ ap (λ (u : Upload). upload_with n u chunk now) same_upload in
     subst (λ (x : TenantBook). IsSamePart x (part_after_append id chunk now d m q)) (sym before)
     (subst (λ (x : TenantBook). IsSamePart (with_changed p id (upload_with n a.0 chunk now)) x) (sym after) (record {
       next = same.next;
@@ -128,7 +135,7 @@ after_append n m p q lifetime same now c d id chunk was is =
 
 -- books of which the tenants at the first so many places have the same
 record AreAlike (few : ℕ) (b c : PlainBook) : Type 0 where
-  lifetime : c.settings.numbers.lifetime ≡ b.settings.numbers.lifetime
+  ends : HasSameEnds b.settings.numbers c.settings.numbers
   old_long : few ≤ length b.tenants
   new_long : few ≤ length c.tenants
   parts : (t : ℕ) → t < few → IsSamePart (tenant_book b t) (tenant_book c t)
@@ -136,7 +143,7 @@ record AreAlike (few : ℕ) (b c : PlainBook) : Type 0 where
 -- one tenant's part changes in both
 alike_after : (few : ℕ) (b c : PlainBook) (k : ℕ) (p q : TenantBook) → AreAlike few b c → (k < few → IsSamePart p q) → AreAlike few (with_tenant_book b k p) (with_tenant_book c k q)
 alike_after few b c k p q alike part = record {
-  lifetime = alike.lifetime;
+  ends = alike.ends;
   old_long = rw (length-set b.tenants k p) alike.old_long;
   new_long = rw (length-set c.tenants k q) alike.new_long;
   parts = λ t within. go t within (eqb_tells t k);
@@ -154,7 +161,7 @@ alike_after few b c k p q alike part = record {
 
 swept : (few : ℕ) (b c : PlainBook) (now : ℕ) → AreAlike few b c → AreAlike few (book_after_sweep b now) (book_after_sweep c now)
 swept few b c now alike = record {
-  lifetime = alike.lifetime;
+  ends = alike.ends;
   old_long = rw (length-map b.tenants (part_after_sweep now)) alike.old_long;
   new_long = rw (length-map c.tenants (part_after_sweep now)) alike.new_long;
   parts = λ t within.
@@ -183,7 +190,7 @@ after_back p q r same =
 alike_with : (few : ℕ) (b c : PlainBook) (restored : Restored) → AreAlike few b c → AreAlike few (book_with b restored) (book_with c restored)
 alike_with few b c (piece.Upload t r) alike = alike_after few b c t _ _ alike (λ here. after_back (tenant_book b t) (tenant_book c t) r (alike.parts t here))
 alike_with few b c (piece.Next t next) alike = alike_after few b c t _ _ alike (λ here. record { next = refl; uploads = (alike.parts t here).uploads })
-alike_with few b c (piece.Totals released) alike = record { lifetime = alike.lifetime; old_long = alike.old_long; new_long = alike.new_long; parts = alike.parts }
+alike_with few b c (piece.Totals released) alike = record { ends = alike.ends; old_long = alike.old_long; new_long = alike.new_long; parts = alike.parts }
 
 -- one that is accepted is not refused
 unrefused : (r : Option Refusal) → IsOk (outcome_in (λ (given : Outcome). given) (unless r outcome.Restored)) → r ≡ None
@@ -200,13 +207,13 @@ accepted_by_both few b c e alike was is = by e.change e.now was is
   where
     by : (change : Change) (now : ℕ) → IsOk (change_answer b change now) → IsOk (change_answer c change now) → AreAlike few (book_after_change b change now) (book_after_change c change now)
     by (change.Create tenant new first) now x y =
-        alike_after few b c tenant _ _ alike (λ here. after_create b.settings.numbers c.settings.numbers (tenant_book b tenant) (tenant_book c tenant) alike.lifetime (alike.parts tenant here) now b.charged c.charged tenant new first x y)
+        alike_after few b c tenant _ _ alike (λ here. after_create b.settings.numbers c.settings.numbers (tenant_book b tenant) (tenant_book c tenant) alike.ends (alike.parts tenant here) now b.charged c.charged tenant new first x y)
     by (change.Append name chunk) now x y =
-        alike_after few b c name.tenant _ _ alike (λ here. after_append b.settings.numbers c.settings.numbers (tenant_book b name.tenant) (tenant_book c name.tenant) alike.lifetime (alike.parts name.tenant here) now b.charged c.charged name.id chunk x y)
+        alike_after few b c name.tenant _ _ alike (λ here. after_append b.settings.numbers c.settings.numbers (tenant_book b name.tenant) (tenant_book c name.tenant) alike.ends (alike.parts name.tenant here) now b.charged c.charged name.id chunk x y)
     by (change.Concat tenant new) now x y =
-        alike_after few b c tenant _ _ alike (λ here. after_concat b.settings.numbers c.settings.numbers (tenant_book b tenant) (tenant_book c tenant) alike.lifetime (alike.parts tenant here) now b.charged c.charged tenant new x y)
+        alike_after few b c tenant _ _ alike (λ here. after_concat b.settings.numbers c.settings.numbers (tenant_book b tenant) (tenant_book c tenant) alike.ends (alike.parts tenant here) now b.charged c.charged tenant new x y)
     by (change.Terminate name) now x y =
-        alike_after few b c name.tenant _ _ alike (λ here. after_terminate b.settings.numbers c.settings.numbers (tenant_book b name.tenant) (tenant_book c name.tenant) alike.lifetime (alike.parts name.tenant here) now b.charged c.charged name.id x)
+        alike_after few b c name.tenant _ _ alike (λ here. after_terminate b.settings.numbers c.settings.numbers (tenant_book b name.tenant) (tenant_book c name.tenant) alike.ends (alike.parts name.tenant here) now b.charged c.charged name.id x)
     by change.Sweep now x y = swept few b c now alike
     by (change.Restore restored) now x y = restored_alike few b c restored alike (unrefused (piece_refusal b restored) x) (unrefused (piece_refusal c restored) y)
 
@@ -227,7 +234,7 @@ both p q of_p of_q = record { next = of_q.next ∙ sym of_p.next; uploads = of_q
 pub makes-the-same : (old new : Settings) → MayFollow old new → MakesTheSame old new
 makes-the-same old new follows events was is tenant within =
     (all_accepted (length old.tenants) (opening_book old) (opening_book new) events (record {
-      lifetime = follows.lifetime;
+      ends = record { lifetime = follows.lifetime; finished = follows.finished };
       old_long = omega (arith, length-map old.tenants (λ (t : TenantQuota). opening_part {K = Upload} t.quota));
       new_long = omega (
         arith,

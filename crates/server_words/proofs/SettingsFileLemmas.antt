@@ -17,7 +17,7 @@ use Rattle.upload_book.specs.declared.settings.Numbers.{Numbers}
 use Rattle.upload_book.specs.declared.settings.TenantQuota.{TenantQuota}
 use Rattle.server_words.specs.Arguments.{CommandArguments, arguments_in}
 use Rattle.server_words.specs.CommandLine.{faults_in}
-use Rattle.server_words.specs.SettingsFile.{AreLines, IsFirstLine, IsWord, lines, number_words, settings_given_by, settings_in, settings_where, tenant_word}
+use Rattle.server_words.specs.SettingsFile.{AreLines, IsFirstLine, IsWord, command_for, finished_words, lines, number_words, settings_given_by, settings_in, settings_where, size_words, tenant_word}
 
 -- one line more
 pub lines-more : (words : List Text) (word : Text) → lines (words ++ word ∷ []) ≡ lines words ++ (word ++ codes "\n")
@@ -46,11 +46,20 @@ text-more front xs place name quota text more named paid is added =
     regroup : (a b c d e : List ℕ) → a ++ b ++ c ++ d ++ e ≡ a ++ (b ++ c ++ d ++ e)
     regroup a b c d e = simp append_assoc
 
--- the text of the numbers
-pub number-lines : (n : Numbers) (t0 t1 t2 t3 t4 t5 t6 : List ℕ) → t1 ≡ t0 ++ codes "--blocks\n" ++ decimal n.blocks ++ codes "\n" → t2 ≡ t1 ++ codes "--block-size\n" ++ decimal n.block_size ++ codes "\n"
+-- the text of the numbers behind that of the lifetime of finished uploads
+pub number-lines : (n : Numbers) (text t0 t1 t2 t3 t4 t5 t6 : List ℕ) → t0 ≡ text ++ lines (finished_words n.finished_lifetime) → t1 ≡ t0 ++ codes "--blocks\n" ++ decimal n.blocks ++ codes "\n" → t2 ≡ t1 ++ codes "--block-size\n" ++ decimal n.block_size ++ codes "\n"
     → t3 ≡ t2 ++ codes "--lifetime\n" ++ decimal n.lifetime ++ codes "\n" → t4 ≡ t3 ++ codes "--max-size\n" ++ decimal n.max_size ++ codes "\n" → t5 ≡ t4 ++ codes "--uploads\n" ++ decimal n.uploads ++ codes "\n"
-    → t6 ≡ t5 ++ codes "--\n" → t6 ≡ t0 ++ lines (number_words n)
-number-lines n t0 t1 t2 t3 t4 t5 t6 e1 e2 e3 e4 e5 e6 =
+    → t6 ≡ t5 ++ codes "--\n" → t6 ≡ text ++ lines (number_words n)
+number-lines n text t0 t1 t2 t3 t4 t5 t6 e0 e1 e2 e3 e4 e5 e6 =
+    let finished = finished_words n.finished_lifetime in
+    size-lines n t0 t1 t2 t3 t4 t5 t6 e1 e2 e3 e4 e5 e6 ∙ ap (λ (t : List ℕ). t ++ lines (size_words n)) e0
+    ∙ append_assoc text (lines finished) (lines (size_words n)) ∙ ap (λ (t : List ℕ). text ++ t) (sym (flat_map-append (λ (w : List ℕ). w ++ codes "\n") finished (size_words n)))
+
+-- the text of the others
+size-lines : (n : Numbers) (t0 t1 t2 t3 t4 t5 t6 : List ℕ) → t1 ≡ t0 ++ codes "--blocks\n" ++ decimal n.blocks ++ codes "\n" → t2 ≡ t1 ++ codes "--block-size\n" ++ decimal n.block_size ++ codes "\n"
+    → t3 ≡ t2 ++ codes "--lifetime\n" ++ decimal n.lifetime ++ codes "\n" → t4 ≡ t3 ++ codes "--max-size\n" ++ decimal n.max_size ++ codes "\n" → t5 ≡ t4 ++ codes "--uploads\n" ++ decimal n.uploads ++ codes "\n"
+    → t6 ≡ t5 ++ codes "--\n" → t6 ≡ t0 ++ lines (size_words n)
+size-lines n t0 t1 t2 t3 t4 t5 t6 e1 e2 e3 e4 e5 e6 =
     all t0 t1 t2 t3 t4 t5 t6 (codes "--blocks\n") (decimal n.blocks) (codes "--block-size\n") (decimal n.block_size) (codes "--lifetime\n") (decimal n.lifetime) (codes "--max-size\n") (decimal n.max_size) (codes "--uploads\n") (decimal n.uploads) (codes "--\n") (codes "\n")
     e1 e2 e3 e4 e5 e6
   where
@@ -147,6 +156,8 @@ not-taken words error (inl memory) other = absurd (other memory)
 not-taken words error (inr among) other = sym (where_faults (faults_in words) (kind_of error) (arguments_in words) among)
 
 -- the words of a file, behind those of the program and its command
-pub given-by : (t0 t1 t2 t3 all more : List Text) → t0 ≡ [] → t1 ≡ t0 ++ codes "tus-server" ∷ [] → t2 ≡ t1 ++ codes "talk" ∷ [] → t3 ≡ t2 ++ more → all ≡ t3 → settings_in all ≡ settings_given_by more
+pub given-by : (command : Text) (t0 t1 t2 t3 all more : List Text) → t0 ≡ [] → t1 ≡ t0 ++ more → command ≡ command_for t1 → t2 ≡ command ∷ t1 → t3 ≡ codes "tus-server" ∷ t2 → all ≡ t3 → settings_in all ≡ settings_given_by more
 unfolding settings_given_by
-given-by t0 t1 t2 t3 all more e0 e1 e2 e3 e = ap settings_in (e ∙ e3 ∙ ap (λ (t : List Text). t ++ more) (e2 ∙ ap (λ (t : List Text). t ++ codes "talk" ∷ []) (e1 ∙ ap (λ (t : List Text). t ++ codes "tus-server" ∷ []) e0)))
+given-by command t0 t1 t2 t3 all more e0 e1 is e2 e3 e =
+    let lines_are : t1 ≡ more = e1 ∙ ap (λ (t : List Text). t ++ more) e0 in
+    ap settings_in (e ∙ e3 ∙ ap (λ (t : List Text). codes "tus-server" ∷ t) (e2 ∙ ap₂ (λ (c : Text) (t : List Text). c ∷ t) (is ∙ ap command_for lines_are) lines_are))

@@ -10,7 +10,7 @@ use Rattle.upload_book.specs.Settings.{AreSound, Settings}
 use Rattle.upload_book.specs.declared.settings.TenantQuota.{TenantQuota}
 use Rattle.upload_book.proofs.Lawful.SettingsLemmas.{tenants-within}
 use Rattle.server_words.specs.MadeAgain.{MakesTheSame}
-use Rattle.server_words.specs.MayFollow.{MayFollow, SettingsDifference, difference_in, first_difference, lifetimes, names_of, tenant_difference, tenants_at}
+use Rattle.server_words.specs.MayFollow.{MayFollow, SettingsDifference, difference_in, finished_difference, finished_lifetimes, first_difference, lifetimes, names_of, tenant_difference, tenants_at}
 use Rattle.server_words.specs.Sentences.{shown}
 use Rattle.server_words.specs.declared.difference.Difference.{Difference}
 use Rattle.server_words.proofs.MadeAgainLemmas.{makes-the-same}
@@ -118,26 +118,48 @@ prefix-same old new h = prefix_none 1 old.tenants new.tenants (sym h)
 pub prefix-differs : (old new : Settings) (d : SettingsDifference) → Some d ≡ tenant_difference 1 old.tenants new.tenants → ¬ (IsPrefix (names_of old) (names_of new))
 prefix-differs old new d h = prefix_some 1 old.tenants new.tenants d (sym h)
 
+-- the two kinds of numbers
+abbrev IsSameOrNot : ℕ → ℕ → Type 0
+IsSameOrNot a b = (((a == b) ≡ true) × (a ≡ b)) ⊎ (((a == b) ≡ false) × (a ≢ b))
+
+-- where the lifetimes of finished uploads and the tenants don't differ, they are the same
+finished-none : (old new : Settings) → finished_difference old new ≡ None → (new.numbers.finished_lifetime ≡ old.numbers.finished_lifetime) × IsPrefix (names_of old) (names_of new)
+finished-none old new h = go (eqb_tells old.numbers.finished_lifetime new.numbers.finished_lifetime)
+  where
+    go : IsSameOrNot old.numbers.finished_lifetime new.numbers.finished_lifetime → (new.numbers.finished_lifetime ≡ old.numbers.finished_lifetime) × IsPrefix (names_of old) (names_of new)
+    go (inl same) = (sym same.1, prefix_none 1 old.tenants new.tenants (rw same.0 at h))
+    go (inr other) = let some = rw other.0 at h in cc
+
+-- and where one of them does, they are not
+finished-some : (old new : Settings) (d : SettingsDifference) → finished_difference old new ≡ Some d → new.numbers.finished_lifetime ≡ old.numbers.finished_lifetime → IsPrefix (names_of old) (names_of new) → ⊥
+finished-some old new d h finished tenants = go (eqb_tells old.numbers.finished_lifetime new.numbers.finished_lifetime)
+  where
+    go : IsSameOrNot old.numbers.finished_lifetime new.numbers.finished_lifetime → ⊥
+    go (inl same) = prefix_some 1 old.tenants new.tenants d (rw same.0 at h) tenants
+    go (inr other) = other.1 (sym finished)
+
 -- settings that differ in nothing here may follow
 pub follows-none : (old new : Settings) → first_difference old new ≡ None → MayFollow old new
 follows-none old new h = go (eqb_tells old.numbers.lifetime new.numbers.lifetime)
   where
-    go : (((old.numbers.lifetime == new.numbers.lifetime) ≡ true) × (old.numbers.lifetime ≡ new.numbers.lifetime)) ⊎ (((old.numbers.lifetime == new.numbers.lifetime) ≡ false) × (old.numbers.lifetime ≢ new.numbers.lifetime)) → MayFollow old new
-    go (inl same) = record { lifetime = sym same.1; tenants = prefix_none 1 old.tenants new.tenants (rw same.0 at h) }
+    go : IsSameOrNot old.numbers.lifetime new.numbers.lifetime → MayFollow old new
+    go (inl same) =
+        let both = finished-none old new (rw same.0 at h) in
+        record { lifetime = sym same.1; finished = both.0; tenants = both.1 }
     go (inr other) = let some = rw other.0 at h in cc
 
 -- and those that do may not
 pub differs-some : (old new : Settings) (d : SettingsDifference) → first_difference old new ≡ Some d → ¬ (MayFollow old new)
 differs-some old new d h follows = go (eqb_tells old.numbers.lifetime new.numbers.lifetime)
   where
-    go : (((old.numbers.lifetime == new.numbers.lifetime) ≡ true) × (old.numbers.lifetime ≡ new.numbers.lifetime)) ⊎ (((old.numbers.lifetime == new.numbers.lifetime) ≡ false) × (old.numbers.lifetime ≢ new.numbers.lifetime)) → ⊥
-    go (inl same) = prefix_some 1 old.tenants new.tenants d (rw same.0 at h) follows.tenants
+    go : IsSameOrNot old.numbers.lifetime new.numbers.lifetime → ⊥
+    go (inl same) = finished-some old new d (rw same.0 at h) follows.finished follows.tenants
     go (inr other) = other.1 (sym follows.lifetime)
 
--- with one lifetime, what differs are the tenants
-pub one-lifetime : (old new : Settings) → old.numbers.lifetime ≡ new.numbers.lifetime → first_difference old new ≡ tenant_difference 1 old.tenants new.tenants
+-- with one lifetime, what differs is that of finished uploads, or the tenants
+pub one-lifetime : (old new : Settings) → old.numbers.lifetime ≡ new.numbers.lifetime → first_difference old new ≡ finished_difference old new
 one-lifetime old new same =
-    ap (λ (b : Bool). cond b (tenant_difference 1 old.tenants new.tenants) (Some (lifetimes old.numbers.lifetime new.numbers.lifetime))) (eq-eqb old.numbers.lifetime new.numbers.lifetime same)
+    ap (λ (b : Bool). cond b (finished_difference old new) (Some (lifetimes old.numbers.lifetime new.numbers.lifetime))) (eq-eqb old.numbers.lifetime new.numbers.lifetime same)
 
 -- what the first difference says, where there is one or none
 module _ (old new : Settings) where

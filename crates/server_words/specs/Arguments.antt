@@ -42,22 +42,23 @@ number_under name rows = unwrap_or (number_given name rows) 0
 abbrev pub is_set : Text → List Row → Bool
 is_set name rows = option_map_or (λ text. bytes_eq text (codes "true")) (one_of name rows) false
 
--- The numbers of a server with so many blocks and this greatest upload: the options give the others, each under its name. Ids
--- and totals have no option: they are bounded by their type alone.
-abbrev pub numbers_with : ℕ → ℕ → List Row → Numbers
-numbers_with blocks max_size rows = record {
+-- The numbers of a server with so many blocks and this greatest upload, where finished uploads stay for so many seconds: the
+-- options give the others, each under its name. Ids and totals have no option: they are bounded by their type alone.
+abbrev pub numbers_with : ℕ → ℕ → ℕ → List Row → Numbers
+numbers_with blocks max_size finished rows = record {
   blocks = blocks;
   block_size = number_under (codes "block-size") rows;
   lifetime = number_under (codes "lifetime") rows;
+  finished_lifetime = finished;
   max_size = max_size;
   uploads = number_under (codes "uploads") rows;
   last_id = 2 ^ 64 - 2;
   last_total = 2 ^ 64 - 1;
 }
 
--- the numbers that the options of `talk` and `serve` give
+-- the numbers that the options of `talk` and `serve` give; finished uploads stay
 abbrev pub numbers_given : List Row → Numbers
-numbers_given rows = numbers_with (number_under (codes "blocks") rows) (number_under (codes "max-size") rows) rows
+numbers_given rows = numbers_with (number_under (codes "blocks") rows) (number_under (codes "max-size") rows) 0 rows
 
 -- the numbers of `run`: where they are not told there are as many blocks as the quotas sum to, and the greatest upload is as
 -- large as the greatest quota
@@ -65,7 +66,7 @@ abbrev pub run_numbers : List Row → List Text → Numbers
 run_numbers rows words =
     let size = number_under (codes "block-size") rows in
     numbers_with (unwrap_or (number_given (codes "blocks") rows) (blocks_of_quotas size words))
-    (unwrap_or (number_given (codes "max-size") rows) (greatest_quota_bytes size words)) rows
+    (unwrap_or (number_given (codes "max-size") rows) (greatest_quota_bytes size words)) (number_under (codes "finished-lifetime") rows) rows
 
 -- The size of the pieces in which bodies without a checksum are stored as they come, if one is told. It is from 65,536 to
 -- 1,048,576, and else there are no arguments.

@@ -85,10 +85,12 @@ with_run_sizes command =
     (with_rule
     (with_rule
     (with_rule
+    (with_rule
     (with_rule command
     (number_rule (codes "blocks") 0 no_end))
     (option_rule (codes "block-size") (codes "4096") no_end))
     (option_rule (codes "lifetime") (codes "86400") no_end))
+    (option_rule (codes "finished-lifetime") (codes "0") no_end))
     (number_rule (codes "max-size") 0 no_end))
     (option_rule (codes "uploads") (codes "1024") no_end)
 

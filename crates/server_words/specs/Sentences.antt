@@ -16,7 +16,7 @@ use Rattle.server_words.specs.declared.cause.Cause.TheVariants.{Input, Output, P
 use Rattle.server_words.specs.declared.cause.PortFault.{PortFault}
 use Rattle.server_words.specs.declared.cause.PortFault.TheVariants.{Taken, Forbidden, NotHere, Refused}
 use Rattle.server_words.specs.declared.difference.Difference.{Difference}
-use Rattle.server_words.specs.declared.difference.Difference.TheVariants.{Lifetime, NoTenant, OtherTenant}
+use Rattle.server_words.specs.declared.difference.Difference.TheVariants.{FinishedLifetime, Lifetime, NoTenant, OtherTenant}
 use Rattle.server_words.specs.declared.fault.RunFault.{RunFault}
 use Rattle.server_words.specs.declared.journal_fault.JournalFault.{JournalFault}
 use Rattle.server_words.specs.declared.journal_fault.JournalFault.TheVariants.{File, NoFolder, NoJournal, Busy, Settings, Damaged, Record, Disk, Upload}
@@ -86,12 +86,17 @@ quota_text sum blocks =
     codes "the quotas sum to " ++ sum_text sum ++ codes " blocks, --blocks is " ++ decimal blocks
     ++ codes ": give smaller quotas or more --blocks\n"
 
+-- finished uploads would stay for too long
+abbrev pub finished_text : ℕ → List ℕ
+finished_text seconds = codes "--finished-lifetime is " ++ decimal seconds ++ codes ": give 0 to 31536000\n"
+
 -- what is wrong with the settings of these numbers and words under these bounds; no option gives the last id
 abbrev pub settings_text : Bounds → SettingsFault → Numbers → List (List ℕ) → List ℕ
 settings_text bounds settings.Blocks n words = outside_text (codes "blocks") n.blocks (blocks_limit bounds)
 settings_text bounds settings.BlockSize n words = outside_text (codes "block-size") n.block_size (block_size_limit bounds)
 settings_text bounds settings.PoolBytes n words = pool_text n (pool_limit bounds)
 settings_text bounds settings.Lifetime n words = outside_text (codes "lifetime") n.lifetime 31536000
+settings_text bounds settings.FinishedLifetime n words = finished_text n.finished_lifetime
 settings_text bounds settings.MaxSize n words = outside_text (codes "max-size") n.max_size (size_limit bounds)
 settings_text bounds settings.Uploads n words = outside_text (codes "uploads") n.uploads (uploads_limit bounds)
 settings_text bounds settings.LastId n words = codes "the last id is out of its range\n"
@@ -163,6 +168,8 @@ cause_text Metrics arguments = codes "--metrics " ++ decimal (metrics_in argumen
 abbrev pub difference_text : Difference → List ℕ
 difference_text (Lifetime journal options) =
     codes "the journal has a lifetime of " ++ decimal journal ++ codes " seconds, the options " ++ decimal options ++ codes "\n"
+difference_text (FinishedLifetime journal options) =
+    codes "the journal has a lifetime of " ++ decimal journal ++ codes " seconds for finished uploads, the options " ++ decimal options ++ codes "\n"
 difference_text (NoTenant place journal) =
     codes "the journal has the tenant " ++ journal.bytes ++ codes " at place " ++ decimal place ++ codes ", the options have none there\n"
 difference_text (OtherTenant place journal options) =
@@ -241,7 +248,7 @@ memory_told (export arguments) = reading_text arguments.folder
 
 -- no numbers
 abbrev pub no_numbers : Numbers
-no_numbers = record { blocks = 0; block_size = 0; lifetime = 0; max_size = 0; uploads = 0; last_id = 0; last_total = 0 }
+no_numbers = record { blocks = 0; block_size = 0; lifetime = 0; finished_lifetime = 0; max_size = 0; uploads = 0; last_id = 0; last_total = 0 }
 
 -- The numbers, the words NAME:QUOTA, the address and the port of a command. `talk` has neither of the last two, and a command
 -- that looks into a journal none of them.

@@ -1,5 +1,5 @@
 -- The file with the settings of a journal: their words as they would be typed, one a line.
-use Rattle.std.specs.Prelude.{◌≡◌, ◌≢◌, ◌⊎◌, ℕ, ◌<◌, ◌==◌, List, [], ◌∷◌, ◌++◌, flat_map, length, map, Option, Some, None, codes, decimal}
+use Rattle.std.specs.Prelude.{◌≡◌, ◌≢◌, ◌⊎◌, ℕ, ◌<◌, ◌==◌, List, [], ◌∷◌, ◌++◌, flat_map, length, map, Option, Some, None, codes, decimal, if◌then◌else◌}
 use Rattle.std.specs.List.{AllByRecursion, after_first, before_first, position_or_len}
 use Rattle.std.specs.Str.{byte}
 use Rattle.std.specs.Result.{result_ok}
@@ -10,7 +10,7 @@ use Rattle.upload_book.specs.declared.settings.Bounds.TheVariants.{Wide}
 use Rattle.upload_book.specs.declared.settings.Numbers.{Numbers}
 use Rattle.upload_book.specs.declared.settings.TenantQuota.{TenantQuota}
 use Rattle.server_words.specs.Arguments.{CommandArguments, talk, serve, check, export, arguments_in}
-use Rattle.server_words.specs.CommandLine.{faults_in}
+use Rattle.server_words.specs.CommandLine.{faults_in, is_word}
 use Rattle.server_words.specs.Settings.{settings_given}
 
 -- each word as a line
@@ -25,13 +25,21 @@ option_words name number = name ∷ decimal number ∷ []
 abbrev pub tenant_word : TenantQuota → Text
 tenant_word t = t.name ++ codes ":" ++ decimal t.quota
 
--- all numbers, those too that are an option's default; then `--`, behind which no word is an option, as a tenant's name may
--- begin with a dash
-abbrev pub number_words : Numbers → List Text
-number_words n =
+-- the option by which finished uploads end, where they do by themselves
+abbrev pub finished_words : ℕ → List Text
+finished_words seconds = if seconds == 0 then [] else option_words (codes "--finished-lifetime") seconds
+
+-- the other numbers, those too that are an option's default; then `--`, behind which no word is an option, as a tenant's name
+-- may begin with a dash
+abbrev pub size_words : Numbers → List Text
+size_words n =
     option_words (codes "--blocks") n.blocks ++ option_words (codes "--block-size") n.block_size
     ++ option_words (codes "--lifetime") n.lifetime ++ option_words (codes "--max-size") n.max_size
     ++ option_words (codes "--uploads") n.uploads ++ codes "--" ∷ []
+
+-- all numbers
+abbrev pub number_words : Numbers → List Text
+number_words n = finished_words n.finished_lifetime ++ size_words n
 
 -- the numbers, and the tenants in their order
 abbrev pub settings_words : Settings → List Text
@@ -64,11 +72,11 @@ pub record AreLines (words : List Text) (text : List ℕ) : Type 0 where
   pub each : AllByRecursion IsWord words
   pub whole : (lines words ≡ text) ⊎ IsLastLine words text
 
--- the settings that `talk` is asked for, under the wide bounds, as a server may have had these
+-- the settings that `talk`, `serve` or `run` is asked for, under the wide bounds, as a server may have had these
 abbrev pub settings_asked : Option CommandArguments → Option Settings
 settings_asked None = None
 settings_asked (Some (talk arguments)) = result_ok (settings_given Wide arguments.numbers arguments.tenants)
-settings_asked (Some (serve arguments)) = None
+settings_asked (Some (serve arguments)) = result_ok (settings_given Wide arguments.numbers arguments.tenants)
 settings_asked (Some (check folder)) = None
 settings_asked (Some (export arguments)) = None
 
@@ -80,6 +88,11 @@ settings_where (fault ∷ faults) asked = None
 unfoldable pub settings_in : List Text → Option Settings
 settings_in words = settings_where (faults_in words) (arguments_in words)
 
--- the settings that the words of a file give: those that `talk` would be asked for by them, under the wide bounds
+-- the command that takes the words of a file: `run` where finished uploads end by themselves, as it alone has that option, and
+-- else `talk`
+abbrev pub command_for : List Text → Text
+command_for words = if is_word words 0 (codes "--finished-lifetime") then codes "run" else codes "talk"
+
+-- the settings that the words of a file give: those that this command would be asked for by them, under the wide bounds
 unfoldable pub settings_given_by : List Text → Option Settings
-settings_given_by words = settings_in (codes "tus-server" ∷ codes "talk" ∷ words)
+settings_given_by words = settings_in (codes "tus-server" ∷ command_for words ∷ words)

@@ -121,7 +121,7 @@ fn tenants_of<'m, 'a>(found: &'m ArgMatches<'a>) -> Option<&'m [&'a str]>
     found.get_strs("tenant")
 }
 
-/// The numbers that the options of `talk` and `serve` give.
+/// The numbers that the options of `talk` and `serve` give; finished uploads stay.
 fn numbers_of(found: &ArgMatches) -> Numbers
     ensures { result ≡ numbers_given (rows_of (found_of found.now)) }
 {
@@ -129,6 +129,7 @@ fn numbers_of(found: &ArgMatches) -> Numbers
         found,
         number_of(found, "blocks"),
         number_of(found, "max-size"),
+        0,
     )
 }
 
@@ -142,17 +143,20 @@ fn run_numbers(found: &ArgMatches, tenants: &[&str]) -> Numbers
     let max_size = number_given(found, "max-size").unwrap_or(greatest_quota_bytes(
         tenants, block_size,
     ));
-    numbers_with(found, blocks, max_size)
+    let finished = number_of(found, "finished-lifetime");
+    numbers_with(found, blocks, max_size, finished)
 }
 
-/// The numbers of a server with so many blocks and this greatest upload. Ids and totals are bounded by their type alone.
-fn numbers_with(found: &ArgMatches, blocks: u64, max_size: u64) -> Numbers
-    ensures { result ≡ numbers_with blocks max_size (rows_of (found_of found.now)) }
+/// The numbers of a server with so many blocks and this greatest upload, where finished uploads stay for so many seconds. Ids and
+/// totals are bounded by their type alone.
+fn numbers_with(found: &ArgMatches, blocks: u64, max_size: u64, finished: u64) -> Numbers
+    ensures { result ≡ numbers_with blocks max_size finished (rows_of (found_of found.now)) }
 {
     Numbers {
         blocks,
         block_size: number_of(found, "block-size"),
         lifetime: number_of(found, "lifetime"),
+        finished_lifetime: finished,
         max_size,
         uploads: number_of(found, "uploads"),
         last_id: u64::MAX - 1,

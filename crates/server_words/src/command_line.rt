@@ -126,7 +126,7 @@ fn ask_help_of_journal<S: AsStr>(words: &[S]) -> bool
 }
 
 /// Whether the word at this place, from 0, is this one.
-fn is_word<S: AsStr>(words: &[S], place: usize, text: &str) -> bool
+pub(crate) fn is_word<S: AsStr>(words: &[S], place: usize, text: &str) -> bool
     ensures { result ≡ is_word (map S.text words.now) place text.now }
 {
     match words.get(place) {
@@ -648,6 +648,7 @@ fn run_sizes<'a>(alloc: Global, command: Command<'a>) -> Result<Command<'a>, All
         .arg(run_blocks(alloc))?
         .arg(run_block_size(alloc))?
         .arg(lifetime(alloc))?
+        .arg(finished_lifetime(alloc))?
         .arg(run_max_size(alloc))?
         .arg(run_uploads(alloc))
 }
@@ -699,6 +700,16 @@ fn lifetime<'a>(alloc: Global) -> Arg<'a>
 {
     number(alloc, "lifetime", "SECONDS", "86400").help(
         "For how long an unfinished upload is kept after its last PATCH, 1 to 31536000",
+    )
+}
+
+/// The option for how long a finished upload stays.
+fn finished_lifetime<'a>(alloc: Global) -> Arg<'a>
+    ensures rule { rule_of result ≡ option_rule (codes "finished-lifetime") (codes "0") 18446744073709551615 }
+    ensures local { result.global ≡ false }
+{
+    number(alloc, "finished-lifetime", "SECONDS", "0").help(
+        "For how long a finished upload stays, 1 to 31536000; until it is deleted at 0",
     )
 }
 

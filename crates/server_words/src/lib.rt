@@ -21,7 +21,7 @@ mod version;
 pub use arguments::command_options;
 pub use cause::{Cause, PortFault};
 pub use command_line::parsed;
-pub use difference::{Difference, first_difference, name_at, tenant_difference};
+pub use difference::{Difference, first_difference, name_at, renewing_difference};
 pub use fault::RunFault;
 pub use journal_fault::{JournalFault, Mismatch, NoUpload};
 pub use options::{CommandOptions, ExportOptions, ServeOptions, TalkOptions, WorkerOptions};

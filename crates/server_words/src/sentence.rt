@@ -4,7 +4,7 @@ ghost use Rattle.std.specs.List.{before_first, list_any};
 ghost use Rattle.arrayvec.specs.ArrayString.{array_string_len};
 ghost use Rattle.clap.specs.Walk.{texts};
 ghost use Rattle.server_words.specs.Arguments.{arguments_of};
-ghost use Rattle.server_words.specs.Sentences.{address_in, address_text, bounds_in, cause_text, difference_text, journal_in, journal_text, log_in, memory_text, memory_told, metrics_in, mismatch_text, name_twice, no_upload_text, numbers_in, outside_text, pool_text, port_in, port_text, ports_text, quota_text, reading_text, sentence_of, settings_text, shortage_text, shown, shown_byte, sum_text, tenant_words, tenants_text, twice_text, untold_text, upload_in, word_rule, word_text, wrong_word};
+ghost use Rattle.server_words.specs.Sentences.{finished_text, address_in, address_text, bounds_in, cause_text, difference_text, journal_in, journal_text, log_in, memory_text, memory_told, metrics_in, mismatch_text, name_twice, no_upload_text, numbers_in, outside_text, pool_text, port_in, port_text, ports_text, quota_text, reading_text, sentence_of, settings_text, shortage_text, shown, shown_byte, sum_text, tenant_words, tenants_text, twice_text, untold_text, upload_in, word_rule, word_text, wrong_word};
 ghost use Rattle.server_words.specs.Tenants.{is_colon};
 
 use crate::cause::{Cause, PortFault};
@@ -64,6 +64,7 @@ const NO_NUMBERS: Numbers = Numbers {
     blocks: 0,
     block_size: 0,
     lifetime: 0,
+    finished_lifetime: 0,
     max_size: 0,
     uploads: 0,
     last_id: 0,
@@ -191,6 +192,7 @@ fn settings_line(
         }
         SettingsFault::PoolBytes => pool_line(numbers, bounds.pool_limit()),
         SettingsFault::Lifetime => outside("lifetime", numbers.lifetime, 31_536_000),
+        SettingsFault::FinishedLifetime => finished_line(numbers.finished_lifetime),
         SettingsFault::MaxSize => outside("max-size", numbers.max_size, bounds.size_limit()),
         SettingsFault::Uploads => outside("uploads", numbers.uploads, bounds.uploads_limit()),
         SettingsFault::LastId => line("the last id is out of its range\n"),
@@ -215,6 +217,18 @@ fn outside(option: &str, value: u64, most: u64) -> ArrayString<SENTENCE_MAX>
     line.push_str(": give 1 to ");
     line.push_str(digits.format(most));
     line.push_str("\n");
+    line
+}
+
+/// Finished uploads would stay for too long.
+fn finished_line(seconds: u64) -> ArrayString<SENTENCE_MAX>
+    ensures { result.bytes ≡ finished_text seconds }
+{
+    let mut digits = Buffer::new();
+    let mut line = ArrayString::new();
+    line.push_str("--finished-lifetime is ");
+    line.push_str(digits.format(seconds));
+    line.push_str(": give 0 to 31536000\n");
     line
 }
 
@@ -508,6 +522,9 @@ fn difference_line(difference: &Difference) -> ArrayString<SENTENCE_MAX>
 {
     match difference {
         Difference::Lifetime { journal, options } => lifetime_line(*journal, *options),
+        Difference::FinishedLifetime { journal, options } => {
+            finished_lifetime_line(*journal, *options)
+        }
         Difference::NoTenant { place, journal } => {
             let mut line = tenant_line(journal, *place);
             line.push_str(", the options have none there\n");
@@ -536,6 +553,20 @@ fn lifetime_line(journal: u64, options: u64) -> ArrayString<SENTENCE_MAX>
     line.push_str("the journal has a lifetime of ");
     line.push_str(digits.format(journal));
     line.push_str(" seconds, the options ");
+    line.push_str(digits.format(options));
+    line.push_str("\n");
+    line
+}
+
+/// The lifetime of finished uploads of a journal is not that of the options.
+fn finished_lifetime_line(journal: u64, options: u64) -> ArrayString<SENTENCE_MAX>
+    ensures { result.bytes ≡ difference_text (Difference.FinishedLifetime journal options) }
+{
+    let mut digits = Buffer::new();
+    let mut line = ArrayString::new();
+    line.push_str("the journal has a lifetime of ");
+    line.push_str(digits.format(journal));
+    line.push_str(" seconds for finished uploads, the options ");
     line.push_str(digits.format(options));
     line.push_str("\n");
     line

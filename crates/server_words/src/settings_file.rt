@@ -2,11 +2,14 @@
 ghost use Rattle.std.specs.Prelude.{◌≡◌, List, [], ◌∷◌, ◌++◌, codes, decimal, IfErr, IfOk, IfSome, IsUtf8, MatchOption, OnOk};
 ghost use Rattle.clap.specs.Walk.{texts};
 ghost use Rattle.clap.specs.Words.{Text, subcommand_rows_of};
+ghost use Rattle.std.specs.Result.{result_ok};
 ghost use Rattle.server_words.specs.Arguments.{arguments_entered};
-ghost use Rattle.server_words.specs.SettingsFile.{AreLines, IsFirstLine, IsWord, lines, number_words, settings_asked, settings_given_by, settings_in, settings_text};
+ghost use Rattle.server_words.specs.Settings.{settings_given};
+ghost use Rattle.upload_book.specs.declared.settings.Bounds.TheVariants.{Wide};
+ghost use Rattle.server_words.specs.SettingsFile.{AreLines, IsFirstLine, IsWord, command_for, finished_words, lines, number_words, settings_asked, settings_given_by, settings_in, settings_text};
 
 use crate::arguments::command_options;
-use crate::command_line::parsed;
+use crate::command_line::{is_word, parsed};
 use crate::difference::name_at;
 use crate::fault::RunFault;
 use crate::options::CommandOptions;
@@ -34,6 +37,7 @@ pub fn settings_text(alloc: Global, settings: &Settings) -> Result<Vec<u8>, Allo
 fn push_numbers(text: &mut Vec<u8>, numbers: &Numbers) -> Result<(), AllocError>
     ensures { OnOk result (text.new.items ≡ text.old.items ++ lines (number_words numbers.now)) }
 {
+    push_finished(text, numbers.finished_lifetime)?;
     push_option(text, b"--blocks\n", numbers.blocks)?;
     push_option(text, b"--block-size\n", numbers.block_size)?;
     push_option(text, b"--lifetime\n", numbers.lifetime)?;
@@ -41,6 +45,16 @@ fn push_numbers(text: &mut Vec<u8>, numbers: &Numbers) -> Result<(), AllocError>
     push_option(text, b"--uploads\n", numbers.uploads)?;
     text.extend_from_slice(b"--\n")?;
     Ok(())
+}
+
+/// Adds the lifetime of finished uploads as two lines, where they end by themselves.
+fn push_finished(text: &mut Vec<u8>, seconds: u64) -> Result<(), AllocError>
+    ensures { OnOk result (text.new.items ≡ text.old.items ++ lines (finished_words seconds)) }
+{
+    if seconds == 0 {
+        return Ok(());
+    }
+    push_option(text, b"--finished-lifetime\n", seconds)
 }
 
 /// Adds a line, and one with a number.
@@ -69,17 +83,37 @@ fn push_number(text: &mut Vec<u8>, number: u64) -> Result<(), AllocError>
     text.extend_from_slice(b"\n")
 }
 
-/// The settings that the text of a file gives: those that `talk` would be asked for by its lines, under the wide bounds, as a
-/// server may have had these. None where it gives none. The error is `RunFault::Memory`.
+/// The settings that the text of a file gives: those that `talk` would be asked for by its lines, or `run` where they begin with
+/// its option `--finished-lifetime`, under the wide bounds, as a server may have had these. None where it gives none. The error
+/// is `RunFault::Memory`.
 pub fn read_settings(alloc: Global, text: &str) -> Result<Option<Settings>, RunFault>
     ensures found { IfOk result (λ found. (words : List Text) × AreLines words text.now × (found ≡ settings_given_by words)) }
     ensures fault { IfErr result (λ fault. fault ≡ RunFault.Memory) }
 {
     let mut words = Vec::with_capacity(alloc, 32)?;
-    push_word(&mut words, "tus-server")?;
-    push_word(&mut words, "talk")?;
     push_lines(&mut words, text)?;
+    let command = command_for(words.as_slice());
+    put_first(&mut words, command)?;
+    put_first(&mut words, "tus-server")?;
     settings_in(alloc, words.as_slice())
+}
+
+/// The command that takes these words of a file: `run` where finished uploads end by themselves, and else `talk`.
+fn command_for(words: &[&str]) -> &'static str
+    ensures { result.now ≡ command_for (texts words.now) }
+{
+    if is_word(words, 0, "--finished-lifetime") {
+        "run"
+    } else {
+        "talk"
+    }
+}
+
+/// Puts a word before the others.
+fn put_first<'a>(words: &mut Vec<&'a str>, word: &'a str) -> Result<(), AllocError>
+    ensures { OnOk result (texts words.new.items ≡ word.entry.now ∷ texts words.old.items) }
+{
+    words.insert(0, word).map_err(AllocError::from)
 }
 
 /// Adds a word.
@@ -132,16 +166,33 @@ fn settings_in(alloc: Global, words: &[&str]) -> Result<Option<Settings>, RunFau
     }
 }
 
-/// The settings that `talk` is asked for by what was found in a command line, under the wide bounds; None where that is none.
+/// The settings that a server is asked for by what was found in a command line, under the wide bounds; None where that is none.
 /// The error is `RunFault::Memory`.
 fn settings_asked(alloc: Global, matches: &ArgMatches) -> Result<Option<Settings>, RunFault>
     ensures found { IfOk result (λ found. found ≡ settings_asked (arguments_entered (subcommand_rows_of matches.now))) }
     ensures fault { IfErr result (λ fault. fault ≡ RunFault.Memory) }
 {
-    let Some(CommandOptions::Talk(options)) = command_options(matches) else {
-        return Ok(None);
-    };
-    match settings_with(alloc, Bounds::Wide, options.numbers, options.tenants) {
+    match command_options(matches) {
+        Some(CommandOptions::Talk(options)) => {
+            settings_of(alloc, options.numbers, options.tenants)
+        }
+        Some(CommandOptions::Serve(options)) => {
+            settings_of(alloc, options.numbers, options.tenants)
+        }
+        _ => Ok(None),
+    }
+}
+
+/// The settings of these numbers and words under the wide bounds; None where they have a fault. The error is `RunFault::Memory`.
+fn settings_of(
+    alloc: Global,
+    numbers: Numbers,
+    words: &[&str],
+) -> Result<Option<Settings>, RunFault>
+    ensures found { IfOk result (λ found. found ≡ result_ok (settings_given Wide numbers (texts words.now))) }
+    ensures fault { IfErr result (λ fault. fault ≡ RunFault.Memory) }
+{
+    match settings_with(alloc, Bounds::Wide, numbers, words) {
         Ok(settings) => Ok(Some(settings)),
         Err(RunFault::Memory) => Err(RunFault::Memory),
         Err(_) => Ok(None),

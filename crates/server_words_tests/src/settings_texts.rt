@@ -4,7 +4,7 @@ use server_words::{read_settings, settings_text};
 /// A text of settings, and the text of the settings that it gives, where it gives some.
 type Row = (&'static str, Option<&'static str>);
 
-static ROWS: [Row; 16] = [
+static ROWS: [Row; 20] = [
     (
         "acme:16MiB\n",
         Some(
@@ -35,6 +35,20 @@ static ROWS: [Row; 16] = [
             "--blocks\n4096\n--block-size\n4096\n--lifetime\n86400\n--max-size\n1048576\n--uploads\n65536\n--\nacme:8\n",
         ),
     ),
+    (
+        "--finished-lifetime\n604800\nacme:8\n",
+        Some(
+            "--finished-lifetime\n604800\n--blocks\n8\n--block-size\n4096\n--lifetime\n86400\n--max-size\n32768\n--uploads\n1024\n--\nacme:8\n",
+        ),
+    ),
+    (
+        "--finished-lifetime\n1\n--blocks\n4096\n--block-size\n4096\n--lifetime\n86400\n--max-size\n1048576\n--uploads\n64\n--\n-a:8\n",
+        Some(
+            "--finished-lifetime\n1\n--blocks\n4096\n--block-size\n4096\n--lifetime\n86400\n--max-size\n1048576\n--uploads\n64\n--\n-a:8\n",
+        ),
+    ),
+    ("--finished-lifetime\n31536001\nacme:8\n", None),
+    ("--lifetime\n1\n--finished-lifetime\n1\nacme:8\n", None),
     ("", None),
     ("\n", None),
     ("acme\n", None),

@@ -25,6 +25,7 @@ use Rattle.upload_book.specs.Expiry.{lifetime_end}
 use Rattle.upload_book.specs.FirstChunk.{FirstChunk}
 use Rattle.upload_book.specs.Lawful.{IsConcatText, IsLawful, is_kept_metadata}
 use Rattle.upload_book.specs.NewUpload.{NewUpload}
+use Rattle.upload_book.specs.laws.Steps.{LastFinishes}
 use Rattle.upload_book.specs.laws.PiecedCreation.{begun_with, ended_by}
 use Rattle.upload_book.specs.PlainBook.{PlainBook, answer_of, book_after, tenant_book}
 use Rattle.upload_book.specs.Refusal.{unless}
@@ -47,7 +48,7 @@ use Rattle.tus_steps.specs.Reply.{append_reply, creation_reply}
 use Rattle.tus_steps.specs.Request.{Request}
 use Rattle.tus_steps.specs.Step.{IsOperationStep, IsStep, IsStepBy}
 use Rattle.tus_steps.proofs.AskLemmas.{asks}
-use Rattle.tus_steps.proofs.PiecesLemmas.{and_then-Some, patch_rest, rest-patch, same, taken, taken-patch, with_body}
+use Rattle.tus_steps.proofs.PiecesLemmas.{and_then-Some, finishes-on, patch_rest, rest-patch, same, taken, taken-patch, with_body}
 use Rattle.tus_steps.proofs.PlaceLemmas.{place-within}
 use Rattle.tus_steps.proofs.StepLemmas.{step-by}
 
@@ -291,10 +292,10 @@ asks-rest s r name t id k told version at place again unchecked = rw (version, a
 
 created : (b : PlainBook) (r : Request) (q : PieceAt) (pieces : List PieceAt) (now : ℕ) (reply : Reply) (after : PlainBook) → IsLawful b → IsPlainCreation r
     → HaveBytes (q ∷ pieces) → count_pieces (q ∷ pieces) ≤ length r.body → All (λ (p : PieceAt). p.now ≤ now) (q ∷ pieces) → now < lifetime_end b.settings.numbers q.now
-    → IsStep b r now reply after → is_some (created_in reply) ≡ true
+    → LastFinishes b.settings.numbers (count_pieces (q ∷ pieces)) (length r.body) → IsStep b r now reply after → is_some (created_in reply) ≡ true
     → (between : PlainBook) × (left : Request) × (last : Reply) × Takes IsStep b r (q ∷ pieces) between left × IsStep between left now last after
     × (reply_to_all r left last ≡ reply)
-created b r q pieces now reply after lawful plain some few moments lasts step is = (
+created b r q pieces now reply after lawful plain some few moments lasts finishes step is = (
   others.0,
   others.1,
   last,
@@ -347,15 +348,22 @@ created b r q pieces now reply after lawful plain some few moments lasts step is
     earlier : q.now ≤ now
     earlier = All-head (λ (p : PieceAt). p.now ≤ now) q pieces moments
 
+    -- the rest behind the first piece finishes what the whole does
+    ahead : LastFinishes b.settings.numbers q.len (length r.body)
+    ahead = of finishes where
+      of : LastFinishes b.settings.numbers (count_pieces (q ∷ pieces)) (length r.body) → LastFinishes b.settings.numbers q.len (length r.body)
+      of (inl stay) = inl stay
+      of (inr some) = inr (omega (arith, some))
+
     id : ℕ
     id = (tenant_book b t).next
 
     middle : PlainBook
-    middle = pieced.after b t c.new chunk q.len q.now now lawful within earlier lasts whole.made
+    middle = pieced.after b t c.new chunk q.len q.now now lawful within earlier lasts ahead whole.made
 
     -- the first piece creates the upload
     made : IsOk (answer_of b t (create_answer t c.new (begun_with chunk q.len) q.now b.charged))
-    made = pieced.book_begun b t c.new chunk q.len q.now now lawful within earlier lasts whole.made
+    made = pieced.book_begun b t c.new chunk q.len q.now now lawful within earlier lasts ahead whole.made
 
     first : Reply
     first = creation_reply (first_of r q.len) (Some (length (take q.len r.body))) (answer_of b t (create_answer t c.new (begun_with chunk q.len) q.now b.charged))
@@ -385,10 +393,10 @@ created b r q pieces now reply after lawful plain some few moments lasts step is
 
     -- the rest is a PATCH of it
     place_of : min (0 + (r.given + q.len)) (2 ^ 64 - 1) ≡ length (take q.len r.body)
-    place_of = omega (arith, plain.whole, le, length-take-le q.len r.body le, pieced.ends b t c.new chunk q.len q.now now lawful within earlier lasts whole.made)
+    place_of = omega (arith, plain.whole, le, length-take-le q.len r.body le, pieced.ends b t c.new chunk q.len q.now now lawful within earlier lasts ahead whole.made)
 
     rest_chunk : chunk_at rest 0 c.new.length None ≡ ended_by c.new chunk q.len
-    rest_chunk = same-chunk (chunk_at rest 0 c.new.length None) _ _ c.new.length true place_of refl (pieced.typed b t c.new chunk q.len q.now now lawful within earlier lasts whole.made)
+    rest_chunk = same-chunk (chunk_at rest 0 c.new.length None) _ _ c.new.length true place_of refl (pieced.typed b t c.new chunk q.len q.now now lawful within earlier lasts ahead whole.made)
 
     asks_rest : operation_of b.settings rest ≡ Ok (operation.Append (record { tenant = t; id = id }) (ended_by c.new chunk q.len))
     asks_rest =
@@ -401,8 +409,8 @@ created b r q pieces now reply after lawful plain some few moments lasts step is
     rest_step =
         step-by middle rest now (operation.Append (record { tenant = t; id = id }) (ended_by c.new chunk q.len)) last after refl asks_rest
         (inl (
-          sym (ap (append_reply rest) (pieced.book_answered b t c.new chunk q.len q.now now lawful within earlier lasts whole.made)),
-          whole.leaves ∙ sym (pieced.book_left b t c.new chunk q.len q.now now lawful within earlier lasts whole.made),
+          sym (ap (append_reply rest) (pieced.book_answered b t c.new chunk q.len q.now now lawful within earlier lasts ahead whole.made)),
+          whole.leaves ∙ sym (pieced.book_left b t c.new chunk q.len q.now now lawful within earlier lasts ahead whole.made),
         ))
 
     count : count_pieces pieces ≤ length (drop q.len r.body)
@@ -410,8 +418,8 @@ created b r q pieces now reply after lawful plain some few moments lasts step is
 
     others : (between : PlainBook) × (left : Request) × Takes IsStep middle rest pieces between left × IsStep between left now last after
     others =
-        taken middle rest pieces now last after (pieced.after_lawful b t c.new chunk q.len q.now now lawful within earlier lasts whole.made c.texts) plain_rest (All-tail (λ (p : PieceAt). 0 < p.len) q pieces some) count
-        (All-tail (λ (p : PieceAt). p.now ≤ now) q pieces moments) rest_step refl
+        taken middle rest pieces now last after (pieced.after_lawful b t c.new chunk q.len q.now now lawful within earlier lasts ahead whole.made c.texts) plain_rest (All-tail (λ (p : PieceAt). 0 < p.len) q pieces some) count
+        (All-tail (λ (p : PieceAt). p.now ≤ now) q pieces moments) (finishes-on b.settings.numbers middle.settings.numbers q.len (count_pieces pieces) r.body refl finishes) rest_step refl
 
     kept : (others.1.method ≡ rest.method) × (others.1.path ≡ rest.path)
     kept = keeps middle rest pieces others.0 others.1 plain_rest others.2

@@ -14,7 +14,8 @@ use Rattle.upload_book.specs.declared.append.Refused.{Refused}
 use Rattle.upload_book.specs.declared.head_row.Name.{Name}
 use Rattle.upload_book.specs.Operation.{Operation}
 use Rattle.upload_book.specs.Operation as operation
-use Rattle.upload_book.specs.laws.Steps.{later_part}
+use Rattle.upload_book.specs.declared.settings.Numbers.{Numbers}
+use Rattle.upload_book.specs.laws.Steps.{LastFinishes, later_part}
 use Rattle.upload_book.specs.Lawful.{IsLawful}
 use Rattle.upload_book.specs.laws.PiecedPatch.{first_piece}
 use Rattle.upload_book.specs.PlainBook.{PlainBook, answer_of, book_after}
@@ -206,12 +207,13 @@ record Goes (b : PlainBook) (r : Request) (k early now : ℕ) (reply : Reply) (a
   step : IsStep b (first_of r k) early first middle
   taken : is_patched first ≡ true
   lawful : IsLawful middle
+  numbers : middle.settings.numbers ≡ b.settings.numbers
   rest : IsStep middle (patch_rest r k) now reply after
   only : (c : PlainBook) (other : Reply) → IsStep b (first_of r k) early other c → is_patched other ≡ true → c ≡ middle
 
 goes : (b : PlainBook) (r : Request) (k early now : ℕ) (reply : Reply) (after : PlainBook) → IsLawful b → IsPlainPatch r → k ≤ length r.body → early ≤ now
-    → IsStep b r now reply after → is_patched reply ≡ true → Goes b r k early now reply after
-goes b r k early now reply after lawful plain le earlier step is = record {
+    → LastFinishes b.settings.numbers (length (take k r.body)) (length r.body) → IsStep b r now reply after → is_patched reply ≡ true → Goes b r k early now reply after
+goes b r k early now reply after lawful plain le earlier finishes step is = record {
   middle = middle;
   first = append_reply (first_of r k) (answer_of b name.tenant (append_answer name.id one early b.charged));
   step =
@@ -219,6 +221,7 @@ goes b r k early now reply after lawful plain le earlier step is = record {
       (inl (refl, refl));
   taken = patched-Ok (first_of r k) (answer_of b name.tenant (append_answer name.id one early b.charged)) on.accepted;
   lawful = on.lawful;
+  numbers = refl;
   rest =
       step-by middle (patch_rest r k) now (operation.Append name two) reply after patch.other (patch.appends (drop k r.body) (r.given + k) r.more ∙ ap (λ chunk. Ok (operation.Append name chunk)) (rest-chunk r k patch.offset patch.told le on.ends))
       (inl (whole.told ∙ ap (append_reply r) (sym on.answer) ∙ sym (same-reply r (drop k r.body) (r.given + k) r.more (answer_of middle name.tenant (append_answer name.id two now middle.charged))), whole.leaves ∙ sym on.last));
@@ -255,9 +258,19 @@ goes b r k early now reply after lawful plain le earlier step is = record {
     within = place-within b patch.tenant name.tenant each patch.place
 
     on : BookGoesOn b name chunk (take k r.body) (drop k r.body) early now
-    on = BookGoesOn-first b name chunk (take k r.body) (drop k r.body) early now lawful within earlier (sym (take-append-drop k r.body)) whole.made
+    on = BookGoesOn-first b name chunk (take k r.body) (drop k r.body) early now lawful within earlier (sym (take-append-drop k r.body)) finishes whole.made
 
 -- ---- all pieces
+
+-- where the rest finishes what the whole does, what is left does so behind the first piece,
+pub finishes-first : (n : Numbers) (k others : ℕ) (body : List ℕ) → LastFinishes n (k + others) (length body) → LastFinishes n (length (take k body)) (length body)
+finishes-first n k others body (inl stay) = inl stay
+finishes-first n k others body (inr some) = inr (omega (arith, some, length-take-le k body (omega (arith, some))))
+
+-- and the rest behind the others
+pub finishes-on : (n m : Numbers) (k others : ℕ) (body : List ℕ) → m ≡ n → LastFinishes n (k + others) (length body) → LastFinishes m others (length (drop k body))
+finishes-on n m k others body same (inl stay) = inl (ap (λ (n : Numbers). n.finished_lifetime) same ∙ stay)
+finishes-on n m k others body same (inr some) = inr (omega (arith, some, length-drop k body))
 
 -- what is left of a PATCH is one
 pub plain-rest : (r : Request) (k : ℕ) → IsPlainPatch r → IsPlainPatch (patch_rest r k)
@@ -265,14 +278,14 @@ plain-rest r k plain = record { method = plain.method; unchecked = plain.uncheck
 
 pub taken : (b : PlainBook) (r : Request) (pieces : List PieceAt) (now : ℕ) (reply : Reply) (after : PlainBook) → IsLawful b → IsPlainPatch r
     → HaveBytes pieces → count_pieces pieces ≤ length r.body → All (λ (q : PieceAt). q.now ≤ now) pieces
-    → IsStep b r now reply after → is_patched reply ≡ true
+    → LastFinishes b.settings.numbers (count_pieces pieces) (length r.body) → IsStep b r now reply after → is_patched reply ≡ true
     → (between : PlainBook) × (left : Request) × Takes IsStep b r pieces between left × IsStep between left now reply after
-taken b r [] now reply after lawful plain some few moments step is = (b, r, (refl, refl), step)
-taken b r (q ∷ pieces) now reply after lawful plain some few moments step is =
+taken b r [] now reply after lawful plain some few moments finishes step is = (b, r, (refl, refl), step)
+taken b r (q ∷ pieces) now reply after lawful plain some few moments finishes step is =
     let le : q.len ≤ length r.body = omega (arith, few) in
-    let g = goes b r q.len q.now now reply after lawful plain le (All-head (λ (q : PieceAt). q.now ≤ now) q pieces moments) step is in
+    let g = goes b r q.len q.now now reply after lawful plain le (All-head (λ (q : PieceAt). q.now ≤ now) q pieces moments) (finishes-first b.settings.numbers q.len (count_pieces pieces) r.body finishes) step is in
     let count : count_pieces pieces ≤ length (drop q.len r.body) = omega (arith, few, length-drop q.len r.body) in
-    let others = taken g.middle (patch_rest r q.len) pieces now reply after g.lawful (plain-rest r q.len plain) (All-tail (λ (q : PieceAt). 0 < q.len) q pieces some) count (All-tail (λ (q : PieceAt). q.now ≤ now) q pieces moments) g.rest is in (
+    let others = taken g.middle (patch_rest r q.len) pieces now reply after g.lawful (plain-rest r q.len plain) (All-tail (λ (q : PieceAt). 0 < q.len) q pieces some) count (All-tail (λ (q : PieceAt). q.now ≤ now) q pieces moments) (finishes-on b.settings.numbers g.middle.settings.numbers q.len (count_pieces pieces) r.body g.numbers finishes) g.rest is in (
       others.0,
       others.1,
       (
@@ -288,18 +301,18 @@ taken b r (q ∷ pieces) now reply after lawful plain some few moments step is =
     )
 
 pub same : (b : PlainBook) (r : Request) (pieces : List PieceAt) (now : ℕ) (reply : Reply) (after : PlainBook) → IsLawful b → IsPlainPatch r
-    → All (λ (q : PieceAt). q.now ≤ now) pieces
+    → All (λ (q : PieceAt). q.now ≤ now) pieces → LastFinishes b.settings.numbers (count_pieces pieces) (length r.body)
     → IsStep b r now reply after → is_patched reply ≡ true
     → (between : PlainBook) (left : Request) (last : Reply) (end : PlainBook) → Takes IsStep b r pieces between left → IsStep between left now last end
     → is_patched last ≡ true → (last ≡ reply) × (end ≡ after)
-same b r [] now reply after lawful plain moments step is between left last end takes ends also =
+same b r [] now reply after lawful plain moments finishes step is between left last end takes ends also =
     let patch = reaches b r now reply after plain step is in
     let whole = accepted b r patch r.body r.given r.more now reply after step is in
     let again = accepted b r patch r.body r.given r.more now last end (subst (λ book. IsStep book r now last end) takes.0 (subst (λ request. IsStep between request now last end) takes.1 ends)) also in
     (again.told ∙ sym whole.told, again.leaves ∙ sym whole.leaves)
-same b r (q ∷ pieces) now reply after lawful plain moments step is between left last end (c, other, some, le, at, other_taken, takes) ends also =
-    let g = goes b r q.len q.now now reply after lawful plain le (All-head (λ (q : PieceAt). q.now ≤ now) q pieces moments) step is in
+same b r (q ∷ pieces) now reply after lawful plain moments finishes step is between left last end (c, other, some, le, at, other_taken, takes) ends also =
+    let g = goes b r q.len q.now now reply after lawful plain le (All-head (λ (q : PieceAt). q.now ≤ now) q pieces moments) (finishes-first b.settings.numbers q.len (count_pieces pieces) r.body finishes) step is in
     let is_patch = sym (taken-patch r other plain) ∙ other_taken in
-    same g.middle (patch_rest r q.len) pieces now reply after g.lawful (plain-rest r q.len plain) (All-tail (λ (q : PieceAt). q.now ≤ now) q pieces moments) g.rest is between left last end
+    same g.middle (patch_rest r q.len) pieces now reply after g.lawful (plain-rest r q.len plain) (All-tail (λ (q : PieceAt). q.now ≤ now) q pieces moments) (finishes-on b.settings.numbers g.middle.settings.numbers q.len (count_pieces pieces) r.body g.numbers finishes) g.rest is between left last end
     (subst (λ book. Takes IsStep book (patch_rest r q.len) pieces between left) (g.only c other at is_patch)
     (subst (λ rest. Takes IsStep c rest pieces between left) (rest-patch r q.len other is_patch) takes)) ends also

@@ -3,6 +3,7 @@ use Rattle.std.specs.Prelude.{◌≡◌, ◌<◌, ◌≤◌, ◌+◌, ◌-◌, �
 use Rattle.tus_text.specs.declared.path.Path.{Path}
 use Rattle.tus_text.specs.declared.path.Path.TheVariants as path
 use Rattle.upload_book.specs.Expiry.{lifetime_end}
+use Rattle.upload_book.specs.laws.Steps.{LastFinishes}
 use Rattle.upload_book.specs.Lawful.{IsLawful}
 use Rattle.upload_book.specs.PlainBook.{PlainBook}
 use Rattle.tus_steps.specs.declared.reply.Reply.{Reply}
@@ -136,21 +137,24 @@ pub record IsPlainCreation (r : Request) : Type 0 where
 -- between: each of them is accepted, and the rest gets the reply to the whole, and leaves the book that the whole leaves. If the
 -- rest is accepted it gets no other reply. The pieces of a creation can be accepted in the same way, while the upload lasts that
 -- its first piece created: behind it the others are PATCHes of the upload, and by the last reply all gets the reply to the whole.
+-- Where finished uploads end by themselves, the rest has some bytes: it finishes what the whole does, and so at its moment.
 pub record PiecesAreTheRequest : Type 0 where
   pub taken :
       (b : PlainBook) (r : Request) (pieces : List PieceAt) (now : ℕ) (reply : Reply) (after : PlainBook) → IsLawful b → IsPlainPatch r
       → HaveBytes pieces → count_pieces pieces ≤ length r.body → All (λ (q : PieceAt). q.now ≤ now) pieces
+      → LastFinishes b.settings.numbers (count_pieces pieces) (length r.body)
       → IsStep b r now reply after → is_patched reply ≡ true
       → (between : PlainBook) × (left : Request) × Takes IsStep b r pieces between left × IsStep between left now reply after
   pub same :
       (b : PlainBook) (r : Request) (pieces : List PieceAt) (now : ℕ) (reply : Reply) (after : PlainBook) → IsLawful b → IsPlainPatch r
-      → All (λ (q : PieceAt). q.now ≤ now) pieces
+      → All (λ (q : PieceAt). q.now ≤ now) pieces → LastFinishes b.settings.numbers (count_pieces pieces) (length r.body)
       → IsStep b r now reply after → is_patched reply ≡ true
       → (between : PlainBook) (left : Request) (last : Reply) (end : PlainBook) → Takes IsStep b r pieces between left → IsStep between left now last end
       → is_patched last ≡ true → (last ≡ reply) × (end ≡ after)
   pub created :
       (b : PlainBook) (r : Request) (q : PieceAt) (pieces : List PieceAt) (now : ℕ) (reply : Reply) (after : PlainBook) → IsLawful b → IsPlainCreation r
       → HaveBytes (q ∷ pieces) → count_pieces (q ∷ pieces) ≤ length r.body → All (λ (p : PieceAt). p.now ≤ now) (q ∷ pieces) → now < lifetime_end b.settings.numbers q.now
+      → LastFinishes b.settings.numbers (count_pieces (q ∷ pieces)) (length r.body)
       → IsStep b r now reply after → is_some (created_in reply) ≡ true
       → (between : PlainBook) × (left : Request) × (last : Reply) × Takes IsStep b r (q ∷ pieces) between left × IsStep between left now last after
       × (reply_to_all r left last ≡ reply)

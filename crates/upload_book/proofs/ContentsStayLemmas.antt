@@ -10,7 +10,7 @@ use Rattle.upload_book.specs.Account.{account_in}
 use Rattle.upload_book.specs.Append.{append_refusal, part_after_append, upload_with}
 use Rattle.upload_book.specs.Change.{book_after_change}
 use Rattle.upload_book.specs.Chunk.{Chunk}
-use Rattle.upload_book.specs.Concat.{concat_refusal, final_upload, part_after_concat, parts_found}
+use Rattle.upload_book.specs.Concat.{concat_refusal, joined_upload, part_after_concat}
 use Rattle.upload_book.specs.Begun.{BookHasOnly, HasOnly}
 use Rattle.upload_book.specs.laws.ContentsStay.{ContentsStay}
 use Rattle.upload_book.specs.Create.{created_upload, creation_refusal, part_after_create}
@@ -74,7 +74,7 @@ module _ (n : Numbers) (part : TenantBook) (id now charged : ℕ) (content : Lis
   stays-create new first (Some why) is = rw is s
 
   stays-concat : (new : NewFinal) (why : Option Refusal) → concat_refusal n part new now ≡ why → HasOnly (part_after_concat new now n part) id content
-  stays-concat new None is = rw is (stays-push (final_upload (parts_found part now new.parts) new))
+  stays-concat new None is = rw is (stays-push (joined_upload n part new now))
   stays-concat new (Some why) is = rw is s
 
   stays-append : (other : ℕ) (chunk : Chunk) (seen : Result Upload Refusal) → visible_upload part other now ≡ seen → HasOnly (part_after_append other chunk now charged n part) id content

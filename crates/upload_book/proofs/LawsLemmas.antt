@@ -1,12 +1,11 @@
 -- A PATCH that is sent in two, and the rows that follow a PATCH.
-use Rattle.std.proofs.Common.{◌≡◌, ℕ, ◌+◌, ◌-◌, ◌≤◌, nat_le, not, eqb, Bool, true, false, true≢false, List, [], ◌∷◌, ◌++◌, length, Option, Some, None, unwrap_or, is_some, IsSome, Result, Ok, Err, refl, inl, inr, sym, ap, subst, ◌∙◌, arith, append_assoc, length-append}
-use Rattle.std.specs.Option.{option_map_or}
+use Rattle.std.proofs.Common.{◌≡◌, ℕ, ◌+◌, ◌-◌, ◌≤◌, not, eqb, Bool, true, false, true≢false, List, [], ◌∷◌, ◌++◌, length, Option, Some, None, unwrap_or, is_some, Result, Ok, Err, refl, inl, inr, sym, ap, subst, ◌∙◌, arith, append_assoc, length-append}
 use Rattle.std.specs.Result.{IsOk}
 use Rattle.std.proofs.lemmas.Bool.Decides.{nat_tests}
 use Rattle.upload_book.specs.Account.{account_in, account_with, blocks_added}
 use Rattle.upload_book.specs.Charge.{charge_in}
 use Rattle.upload_book.specs.declared.board_line.Account.{Account}
-use Rattle.upload_book.specs.Append.{is_final, or_else, differ, is_too_long, append_refusal, append_answer, appended_upload, part_after_append, row_with, telling, told, upload_with}
+use Rattle.upload_book.specs.Append.{or_else, differ, is_too_long, append_refusal, append_answer, appended_upload, part_after_append, row_with, telling, told, upload_with}
 use Rattle.upload_book.specs.Chunk.{Chunk, count_all}
 use Rattle.upload_book.specs.declared.append.Appended.{Appended}
 use Rattle.upload_book.specs.declared.append.Refused.{Refused}
@@ -15,17 +14,17 @@ use Rattle.upload_book.specs.declared.head_row.Kind.{Kind}
 use Rattle.upload_book.specs.declared.head_row.Kind.TheVariants.{Plain, Partial, Final}
 use Rattle.upload_book.specs.declared.refusal.Refusal.{Refusal}
 use Rattle.upload_book.specs.declared.settings.Numbers.{Numbers}
-use Rattle.upload_book.specs.Expiry.{lifetime_end, renewed, has_expired}
-use Rattle.upload_book.specs.laws.Steps.{AccountsFollow, ResumedPatch, RowsFollow, charged_after, first_part, later_part, row_in}
-use Rattle.upload_book.specs.Lawful.{IsUploadOf, IsOfKind}
+use Rattle.upload_book.specs.Expiry.{finished_end, has_expired, may_end, renewed}
+use Rattle.upload_book.specs.laws.Steps.{AccountsFollow, LastFinishes, ResumedPatch, RowsFollow, charged_after, first_part, later_part, row_in}
+use Rattle.upload_book.specs.Lawful.{IsUploadOf}
 use Rattle.upload_book.specs.Look.{row_of}
 use Rattle.upload_book.specs.Refusal.{unless}
 use Rattle.upload_book.specs.TenantBook.{TenantBook, kept_in, visible_upload, with_changed}
-use Rattle.upload_book.specs.Upload.{Upload, content_of, offset_of, is_reached, head_row_of}
+use Rattle.upload_book.specs.Upload.{Upload, content_of, offset_of, is_complete, is_reached, head_row_of}
 use Rattle.upload_book.proofs.Lawful.Entries.{kept_in-All, visible_in-changed, visible_in-fresh, visible_in-Ok, with_kept-twice}
 use Rattle.upload_book.proofs.Charge.ChargeLemmas.{charge-append}
 use Rattle.upload_book.proofs.Charge.PriceLemmas.{blocks_between-two}
-use Rattle.upload_book.proofs.Lawful.LawfulAppend.{IsAppendable, IsAppendable-from_none, append_refusal-none, content_of-append, fewer_blocks, fewer_fit, offset_of-append, complete_tells}
+use Rattle.upload_book.proofs.Lawful.LawfulAppend.{IsAppendable, IsAppendable-from_none, append_refusal-none, complete_known, complete_later, content_of-append, fewer_blocks, fewer_fit, offset_of-append}
 
 pub or_else-twice : (known told : Option ℕ) → or_else (or_else known told) told ≡ or_else known told
 or_else-twice None None = refl
@@ -97,86 +96,103 @@ IsAppendable-later n account u chunk first later now whole can =
     both : (before first second all one limit : ℕ) → all ≡ one → first + second ≡ one → before + all ≤ limit → before + first + second ≤ limit
     both before first second all one limit same two fits = omega arith
 
--- an upload that is complete already takes no more
-pub complete_later : (n : Numbers) (declared : Option ℕ) (start end : ℕ) → start ≤ end → is_too_long n (unwrap_or declared n.max_size) end ≡ false
-    → option_map_or (λ n. eqb n start) declared false ≡ true → option_map_or (λ n. eqb n end) declared false ≡ true
-complete_later n None start end le fits is = absurd (true≢false (sym is))
-complete_later n (Some most) start end le fits is = grind (arith, nat_tests)
+-- ---- moments
 
-renewed-twice : (kind : Kind) (early late : Bool) (before : Option ℕ) (end : ℕ) → (early ≡ true → late ≡ true)
-    → renewed kind late (renewed kind early before end) end ≡ renewed kind late before end
-renewed-twice Plain early true before end grows = refl
-renewed-twice Plain true false before end grows = absurd (true≢false (sym (grows refl)))
-renewed-twice Plain false false before end grows = ap (λ end. Some end) (omega arith)
-renewed-twice Partial early late before end grows = ap (λ end. Some end) (omega arith)
-renewed-twice Final early late before end grows = refl
+-- where the rest of the bytes is some, those ahead of it do not finish an upload
+none-ahead : (n : Numbers) (declared : Option ℕ) (start more : ℕ) → is_too_long n (unwrap_or declared n.max_size) (start + more) ≡ false → is_reached declared start ≡ true → more ≡ 0
+none-ahead n None start more fits is = absurd (true≢false (sym is))
+none-ahead n (Some most) start more fits is = grind (arith, nat_tests)
+
+-- where finished uploads stay, none has an end
+none-finished : (n : Numbers) (now : ℕ) → n.finished_lifetime ≡ 0 → finished_end n now ≡ None
+none-finished n now stay = rw stay refl
+
+-- so bytes ahead that finish an upload give it no end
+pub no-end-ahead : (n : Numbers) (declared : Option ℕ) (start ahead more now : ℕ) → LastFinishes n ahead (ahead + more) → is_too_long n (unwrap_or declared n.max_size) (start + more) ≡ false → is_reached declared start ≡ true → finished_end n now ≡ None
+no-end-ahead n declared start ahead more now (inl stay) fits is = none-finished n now stay
+no-end-ahead n declared start ahead more now (inr some) fits is = absurd (omega (arith, some, none-ahead n declared start more fits is))
+
+-- an end that is told later stands in place of one that was told before
+pub renewed-later : (n : Numbers) (kind : Kind) (was early late : Bool) (before : Option ℕ) (first last : ℕ) → first ≤ last → (was ≡ true → early ≡ true) → (early ≡ true → late ≡ true)
+    → (early ≡ true → (now : ℕ) → finished_end n now ≡ None)
+    → renewed n kind early late (renewed n kind was early before first) last ≡ renewed n kind was late before last
+renewed-later n Plain true true late before first last le stays grows none = refl
+renewed-later n Plain true false late before first last le stays grows none = absurd (true≢false (sym (stays refl)))
+renewed-later n Plain false true true before first last le stays grows none = none refl first ∙ sym (none refl last)
+renewed-later n Plain false true false before first last le stays grows none = absurd (true≢false (sym (grows refl)))
+renewed-later n Plain false false true before first last le stays grows none = refl
+renewed-later n Plain false false false before first last le stays grows none = ap (λ end. Some end) (omega (arith, le))
+renewed-later n Partial was early late before first last le stays grows none = ap (λ end. Some end) (omega (arith, le))
+renewed-later n Final was early late before first last le stays grows none = refl
 
 -- the two leave the same upload
-upload_with-two : (n : Numbers) (account : Account) (u : Upload) (chunk : Chunk) (first later : List ℕ) (now : ℕ) → chunk.bytes ≡ first ++ later → IsAppendable n account u chunk
-    → upload_with n (upload_with n u (first_part chunk first) now) (later_part chunk first later) now ≡ upload_with n u chunk now
-upload_with-two n account u chunk first later now whole can =
-    rw (or_else-twice u.declared chunk.length, content, end) (ap (λ e. record grown { expires = e }) expiry)
+pub upload_with-two : (n : Numbers) (account : Account) (u : Upload) (chunk : Chunk) (first later : List ℕ) (early now : ℕ) → early ≤ now → chunk.bytes ≡ first ++ later → LastFinishes n (length first) (length chunk.bytes) → IsAppendable n account u chunk
+    → upload_with n (upload_with n u (first_part chunk first) early) (later_part chunk first later) now ≡ upload_with n u chunk now
+upload_with-two n account u chunk first later early now le whole finishes can =
+    rw (or_else-twice u.declared chunk.length, content, end) (ap (λ e. record grown { expires = e }) (reached ∙ expiry))
   where
     declared : Option ℕ
     declared = or_else u.declared chunk.length
 
     after : Upload
-    after = upload_with n u (first_part chunk first) now
+    after = upload_with n u (first_part chunk first) early
 
     grown : Upload
     grown = record u { declared = declared; segments = (content_of u ++ chunk.bytes) ∷ [] }
 
     content : content_of after ++ later ≡ content_of u ++ chunk.bytes
     content =
-        ap (λ l. l ++ later) (content_of-append n u (first_part chunk first) now) ∙ append_assoc (content_of u) first later ∙ ap (λ l. content_of u ++ l) (sym whole)
+        ap (λ l. l ++ later) (content_of-append n u (first_part chunk first) early) ∙ append_assoc (content_of u) first later ∙ ap (λ l. content_of u ++ l) (sym whole)
 
     count : length chunk.bytes ≡ length first + length later
     count = ap length whole ∙ length-append first later
 
+    start : offset_of after ≡ offset_of u + length first
+    start = offset_of-append n u (first_part chunk first) early
+
     end : offset_of after + length later ≡ offset_of u + length chunk.bytes
-    end = omega (arith, count, offset_of-append n u (first_part chunk first) now)
+    end = omega (arith, count, start)
 
-    expiry : renewed u.kind (is_reached declared (offset_of u + length chunk.bytes)) after.expires (lifetime_end n now) ≡ renewed u.kind (is_reached declared (offset_of u + length chunk.bytes)) u.expires (lifetime_end n now)
+    last : Bool
+    last = is_reached declared (offset_of u + length chunk.bytes)
+
+    reached : renewed n u.kind (is_reached declared (offset_of after)) last after.expires now ≡ renewed n u.kind (is_reached declared (offset_of u + length first)) last after.expires now
+    reached = ap (λ offset. renewed n u.kind (is_reached declared offset) last after.expires now) start
+
+    none : is_reached declared (offset_of u + length first) ≡ true → (now : ℕ) → finished_end n now ≡ None
+    none is now =
+        no-end-ahead n declared (offset_of u + length first) (length first) (length later) now (subst (LastFinishes n (length first)) count finishes)
+        (subst (λ all. is_too_long n (unwrap_or declared n.max_size) all ≡ false) (let all : offset_of u + length chunk.bytes ≡ offset_of u + length first + length later = omega (arith, count) in all) can.fits) is
+
+    expiry : renewed n u.kind (is_reached declared (offset_of u + length first)) last after.expires now ≡ renewed n u.kind (is_complete u) last u.expires now
     expiry =
-        renewed-twice u.kind (is_reached declared (offset_of u + length first)) (is_reached declared (offset_of u + length chunk.bytes)) u.expires (lifetime_end n now)
+        renewed-later n u.kind (is_complete u) (is_reached declared (offset_of u + length first)) last u.expires early now le
+        (λ was. complete_later n declared (offset_of u) (offset_of u + length first) (omega arith) (fewer_fit n (unwrap_or declared n.max_size) (offset_of u + length first) (offset_of u + length chunk.bytes) (omega (arith, count)) can.fits)
+        (complete_known u.declared chunk.length (offset_of u) was))
         (complete_later n declared (offset_of u + length first) (offset_of u + length chunk.bytes) (omega (arith, count)) can.fits)
+        none
 
--- an upload that is renewed has not expired
-pub fresh_after : (now : ℕ) (kind : Kind) (complete : Bool) (before : Option ℕ) (end : ℕ) → option_map_or (λ e. nat_le e now) before false ≡ false
-    → (before ≡ None → renewed kind complete before end ≡ None) → option_map_or (λ e. nat_le e now) (renewed kind complete before end) false ≡ false
-fresh_after now kind complete None end fresh never = rw (never refl) refl
-fresh_after now Plain true (Some e) end fresh never = refl
-fresh_after now Plain false (Some e) end fresh never = grind (arith, nat_tests)
-fresh_after now Partial complete (Some e) end fresh never = grind (arith, nat_tests)
-fresh_after now Final complete (Some e) end fresh never = fresh
+-- an upload that is renewed has not expired, if it had not, where no bytes that finish it give it an end
+pub fresh_after : (n : Numbers) (kind : Kind) (was complete : Bool) (before : Option ℕ) (early now : ℕ) → has_expired now before ≡ false → may_end n kind was before ≡ true
+    → (complete ≡ true → finished_end n early ≡ None) → has_expired now (renewed n kind was complete before early) ≡ false
+fresh_after n Plain true complete before early now fresh had none = fresh
+fresh_after n Plain false true before early now fresh had none = rw (none refl) refl
+fresh_after n Plain false false None early now fresh had none = absurd (true≢false (sym had))
+fresh_after n Plain false false (Some e) early now fresh had none = grind (arith, nat_tests)
+fresh_after n Partial was complete None early now fresh had none = absurd (true≢false (sym had))
+fresh_after n Partial was complete (Some e) early now fresh had none = grind (arith, nat_tests)
+fresh_after n Final was complete before early now fresh had none = fresh
 
-complete_known : (known told : Option ℕ) (end : ℕ) → option_map_or (λ n. eqb n end) known false ≡ true → option_map_or (λ n. eqb n end) (or_else known told) false ≡ true
-complete_known None told end is = absurd (true≢false (sym is))
-complete_known (Some most) told end is = is
-
-expires_none : (expires : Option ℕ) → expires ≡ None → IsSome expires → ⊥
-expires_none expires none some = true≢false (sym some ∙ ap (is_some {T = ℕ}) none)
-
--- one that does not expire is complete, and stays so
-pub never_after : (n : Numbers) (account : Account) (part : TenantBook) (u : Upload) (chunk : Chunk) (now : ℕ) (kind : Kind) → IsAppendable n account u chunk → is_final kind ≡ false → IsOfKind part u kind
-    → u.expires ≡ None → renewed kind (is_reached (or_else u.declared chunk.length) (offset_of u + length chunk.bytes)) u.expires (lifetime_end n now) ≡ None
-never_after n account part u chunk now Plain can own sound none =
-    elim (complete_tells u) [
-      | inl complete ↦
-          let late = complete_later n (or_else u.declared chunk.length) (offset_of u) (offset_of u + length chunk.bytes) (omega arith) can.fits
-          (complete_known u.declared chunk.length (offset_of u) complete.0) in
-          rw late refl
-      | inr open' ↦ absurd (expires_none u.expires none (sound.1.1 open'.1))
-    ]
-never_after n account part u chunk now Partial can own sound none = absurd (expires_none u.expires none sound.1)
-never_after n account part u chunk now Final can own sound none = absurd (true≢false own)
-
--- a PATCH of an upload that is seen leaves one that is seen
-fresh_append : (n : Numbers) (account : Account) (part : TenantBook) (u : Upload) (chunk : Chunk) (now : ℕ) → IsAppendable n account u chunk → IsUploadOf n part u → has_expired now u.expires ≡ false
-    → has_expired now (upload_with n u chunk now).expires ≡ false
-fresh_append n account part u chunk now can sound fresh =
-    fresh_after now u.kind (is_reached (or_else u.declared chunk.length) (offset_of u + length chunk.bytes)) u.expires (lifetime_end n now) fresh
-    (never_after n account part u chunk now u.kind can can.own sound.kind)
+-- a piece of a PATCH of an upload that is seen at a later moment leaves one that is seen then
+pub fresh_append : (n : Numbers) (account : Account) (part : TenantBook) (u : Upload) (chunk : Chunk) (first later : List ℕ) (early now : ℕ) → IsAppendable n account u chunk → chunk.bytes ≡ first ++ later
+    → LastFinishes n (length first) (length chunk.bytes) → IsUploadOf n part u → has_expired now u.expires ≡ false → has_expired now (upload_with n u (first_part chunk first) early).expires ≡ false
+fresh_append n account part u chunk first later early now can whole finishes sound fresh =
+    let declared = or_else u.declared chunk.length in
+    let count : length chunk.bytes ≡ length first + length later = ap length whole ∙ length-append first later in
+    let all : offset_of u + length chunk.bytes ≡ offset_of u + length first + length later = omega (arith, count) in
+    fresh_after n u.kind (is_complete u) (is_reached declared (offset_of u + length first)) u.expires early now fresh sound.ends
+    (no-end-ahead n declared (offset_of u + length first) (length first) (length later) early (subst (LastFinishes n (length first)) count finishes)
+    (subst (λ all. is_too_long n (unwrap_or declared n.max_size) all ≡ false) all can.fits))
 
 -- the end of an upload that is visible
 abbrev pub end_of : Upload → Option ℕ
@@ -267,7 +283,7 @@ part_accepted n part id chunk now charged u is can = rw (is, append_refusal-none
 -- a PATCH that is accepted may be sent in two
 pub resumed_patch : ResumedPatch
 unfolding answer_of_upload
-resumed_patch n part id charged chunk first later now sound whole accepted =
+resumed_patch n part id charged chunk first later now sound whole finishes accepted =
     (rw answer_one refl, answer_two ∙ sym answer_whole, part_two ∙ sym part_whole)
   where
     account : Account
@@ -317,10 +333,10 @@ resumed_patch n part id charged chunk first later now sound whole accepted =
 
     sees : visible_upload middle id now ≡ Ok after
     sees =
-        visible_in-changed end_of part id now u after found.visible (fresh_append n account part u one now can_one sound_u (visible_in-fresh end_of part id now u found.visible).1)
+        visible_in-changed end_of part id now u after found.visible (fresh_append n account part u chunk first later now now can whole finishes sound_u (visible_in-fresh end_of part id now u found.visible).1)
 
     same : upload_with n after two now ≡ upload_with n u chunk now
-    same = upload_with-two n account u chunk first later now whole can
+    same = upload_with-two n account u chunk first later now now (omega arith) whole finishes can
 
     answer_one : append_answer id one now charged n part ≡ answer_of_upload (upload_with n u one now)
     answer_one = answer_accepted n part id one now charged u found.visible can_one

@@ -1,5 +1,5 @@
 -- A creation that comes in pieces.
-use Rattle.std.proofs.Common.{◌≡◌, ℕ, ◌+◌, ◌<◌, ◌≤◌, Bool, true, false, true≢false, not, eqb, ltb, List, [], ◌∷◌, ◌++◌, length, take, drop, Option, Some, None, Ok, Err, refl, inl, inr, sym, ap, subst, ◌∙◌, arith, append-nil, length-append}
+use Rattle.std.proofs.Common.{◌≡◌, ℕ, ◌+◌, ◌<◌, ◌≤◌, Bool, true, false, true≢false, not, eqb, ltb, List, [], ◌∷◌, ◌++◌, length, take, drop, Option, Some, None, Ok, Err, unwrap_or, refl, inl, inr, sym, ap, ap₂, subst, ◌∙◌, arith, append-nil, length-append, length-take}
 use Rattle.std.specs.List.{All}
 use Rattle.std.specs.Result.{IsOk}
 use Rattle.std.proofs.lemmas.Bool.{eq-eqb}
@@ -7,17 +7,16 @@ use Rattle.std.proofs.lemmas.Bool.Decides.{eqb_tells, nat_tests}
 use Rattle.std.proofs.lemmas.List.{take-append-drop}
 use Rattle.std.proofs.lemmas.List.Elements.{All-head, All-tail}
 use Rattle.upload_book.specs.Account.{account_in, account_with, blocks_added}
-use Rattle.upload_book.specs.Append.{append_answer, differ, or_else, part_after_append, upload_with}
+use Rattle.upload_book.specs.Append.{append_answer, differ, is_too_long, or_else, part_after_append, upload_with}
 use Rattle.upload_book.specs.Charge.{charge_in}
 use Rattle.upload_book.specs.Chunk.{Chunk, count_all}
 use Rattle.upload_book.specs.Create.{create_answer, created_upload, creation_refusal, new_kind, part_after_create}
 use Rattle.upload_book.specs.declared.board_line.Account.{Account}
-use Rattle.upload_book.specs.declared.head_row.Kind.{Kind}
 use Rattle.upload_book.specs.declared.refusal.Refusal.{Refusal}
 use Rattle.upload_book.specs.declared.settings.Numbers.{Numbers}
-use Rattle.upload_book.specs.Expiry.{has_expired, lifetime_end, renewed}
+use Rattle.upload_book.specs.Expiry.{finished_end, has_expired, lifetime_end, renewed}
 use Rattle.upload_book.specs.FirstChunk.{FirstChunk, count_all_first}
-use Rattle.upload_book.specs.laws.Steps.{charged_after}
+use Rattle.upload_book.specs.laws.Steps.{LastFinishes, charged_after}
 use Rattle.upload_book.specs.Lawful.{IsTenantOf}
 use Rattle.upload_book.specs.NewUpload.{NewUpload}
 use Rattle.upload_book.specs.laws.PiecedCreation.{PiecedCreation, begun_with, ended_by}
@@ -27,11 +26,10 @@ use Rattle.upload_book.proofs.Charge.ChargeLemmas.{charge-create, new-own}
 use Rattle.upload_book.proofs.Charge.PriceLemmas.{blocks_between-two}
 use Rattle.upload_book.proofs.Expiries.BookEnds.{kept_in-added}
 use Rattle.upload_book.proofs.Expiries.ExpirySteps.{ids-below}
-use Rattle.upload_book.proofs.Lawful.LawfulAppend.{IsAppendable}
+use Rattle.upload_book.proofs.Lawful.LawfulAppend.{IsAppendable, complete_later}
 use Rattle.upload_book.proofs.Lawful.LawfulCreate.{IsCreatable, IsCreatable-from_none, creation_refusal-none}
 use Rattle.upload_book.proofs.Lawful.Outcomes.{create_answer-none, part_after_create-none, unless-Err}
-use Rattle.upload_book.proofs.LawsLemmas.{account_more, answer_accepted, answer_of_upload, complete_later, part_accepted}
-use Rattle.upload_book.proofs.PiecesLemmas.{lifetime_end-later, renewed-later}
+use Rattle.upload_book.proofs.LawsLemmas.{account_more, answer_accepted, answer_of_upload, no-end-ahead, part_accepted, renewed-later}
 
 -- an accepted creation is refused by nothing
 unrefused : (tenant : ℕ) (n : Numbers) (part : TenantBook) (new : NewUpload) (first : FirstChunk) (now charged : ℕ) → IsOk (create_answer tenant new first now charged n part) → creation_refusal n (account_in n part charged) part new first ≡ None
@@ -69,17 +67,13 @@ below_next id = grind (arith, nat_tests)
 same_offset : (a b : ℕ) → b ≡ a → not (eqb a b) ≡ false
 same_offset a b is = grind (arith, nat_tests)
 
--- a new upload is seen while its lifetime lasts
-fresh-new : (partial complete : Bool) (end now : ℕ) → now < end → has_expired now (renewed (new_kind partial) complete None end) ≡ false
-fresh-new true complete end now before = grind (arith, nat_tests)
-fresh-new false true end now before = refl
-fresh-new false false end now before = grind (arith, nat_tests)
+-- a new upload is seen while its lifetime lasts, where no bytes that finish it give it an end
+fresh-new : (n : Numbers) (partial complete : Bool) (early now : ℕ) → now < lifetime_end n early → (complete ≡ true → finished_end n early ≡ None) → has_expired now (renewed n (new_kind partial) false complete None early) ≡ false
+fresh-new n true complete early now before none = grind (arith, nat_tests)
+fresh-new n false true early now before none = rw (none refl) refl
+fresh-new n false false early now before none = grind (arith, nat_tests)
 
--- an end by the numbers that tell whether the upload is complete
-renewed-end : (kind : Kind) (complete complete' : Bool) (before before' : Option ℕ) (end : ℕ) → complete ≡ complete' → before ≡ before' → renewed kind complete before end ≡ renewed kind complete' before' end
-renewed-end kind complete complete' before before' end is same = rw (is, same) refl
-
-module _ (n : Numbers) (part : TenantBook) (tenant charged : ℕ) (new : NewUpload) (first : FirstChunk) (k early now : ℕ) (sound : IsTenantOf n part) (le : early ≤ now) (lasts : now < lifetime_end n early) (accepted : IsOk (create_answer tenant new first now charged n part)) where
+module _ (n : Numbers) (part : TenantBook) (tenant charged : ℕ) (new : NewUpload) (first : FirstChunk) (k early now : ℕ) (sound : IsTenantOf n part) (le : early ≤ now) (lasts : now < lifetime_end n early) (finishes : LastFinishes n k (length first.bytes)) (accepted : IsOk (create_answer tenant new first now charged n part)) where
   abbrev pub account : Account
   account = account_in n part charged
 
@@ -144,11 +138,21 @@ module _ (n : Numbers) (part : TenantBook) (tenant charged : ℕ) (new : NewUplo
   all_end : offset_of v + count_all rest ≡ count_all_first first
   all_end = omega (arith, start, count)
 
+  -- the first bytes finish it only where finished ones have no end
+  none-ahead : is_reached new.length (length bytes) ≡ true → (now : ℕ) → finished_end n now ≡ None
+  none-ahead is now =
+      no-end-ahead n new.length (length bytes) (length bytes) (length later) now (subst (LastFinishes n (length bytes)) (sym count) (ahead finishes))
+      (subst (λ all. is_too_long n (unwrap_or new.length n.max_size) all ≡ false) (sym count) can.fits) is
+    where
+      ahead : LastFinishes n k (length first.bytes) → LastFinishes n (length bytes) (length first.bytes)
+      ahead (inl stay) = inl stay
+      ahead (inr some) = inr (omega (arith, some, length-take k first.bytes))
+
   -- the upload is seen
   seen : visible_upload middle part.next now ≡ Ok v
   seen =
       let there = kept_in-added part.uploads part.next v (ids-below n part sound) in
-      let fresh = fresh-new new.partial (is_reached new.length (length bytes)) (lifetime_end n early) now lasts in
+      let fresh = fresh-new n new.partial (is_reached new.length (length bytes)) early now lasts (λ is. none-ahead is early) in
       rw (above_zero part.next sound.first, below_next part.next, there, fresh) refl
 
   added : blocks_added n 0 (length bytes) + blocks_added n (offset_of v) (length later) ≡ blocks_added n 0 (length first.bytes)
@@ -194,11 +198,14 @@ module _ (n : Numbers) (part : TenantBook) (tenant charged : ℕ) (new : NewUplo
       content : content_of v ++ later ≡ first.bytes
       content = ap (λ l. l ++ later) (append-nil bytes) ∙ whole
 
-      expiry : renewed (new_kind new.partial) (is_reached new.length (offset_of v + length later)) v.expires (lifetime_end n now) ≡ w.expires
+      last : Bool
+      last = is_reached new.length (length first.bytes)
+
+      expiry : renewed n (new_kind new.partial) (is_reached new.length (offset_of v)) (is_reached new.length (offset_of v + length later)) v.expires now ≡ w.expires
       expiry =
-          renewed-end (new_kind new.partial) (is_reached new.length (offset_of v + length later)) (is_reached new.length (length first.bytes)) v.expires v.expires (lifetime_end n now) (ap (is_reached new.length) end) refl
-          ∙ renewed-later (new_kind new.partial) (is_reached new.length (length bytes)) (is_reached new.length (length first.bytes)) None (lifetime_end n early) (lifetime_end n now)
-          (lifetime_end-later n early now le) (complete_later n new.length (length bytes) (length first.bytes) (omega (arith, count)) can.fits)
+          ap₂ (λ was complete. renewed n (new_kind new.partial) was complete v.expires now) (ap (is_reached new.length) start) (ap (is_reached new.length) end)
+          ∙ renewed-later n (new_kind new.partial) false (is_reached new.length (length bytes)) last None early now le (λ was. absurd (true≢false (sym was)))
+          (complete_later n new.length (length bytes) (length first.bytes) (omega (arith, count)) can.fits) none-ahead
 
   answered : append_answer part.next rest now more n middle ≡ Ok (record { offset = length first.bytes; expires = w.expires })
   unfolding answer_of_upload
@@ -241,10 +248,10 @@ refused n part tenant charged new first k now why unchecked is =
 
 pub pieced_creation : PiecedCreation
 pieced_creation = record {
-  accepted = λ n part tenant charged new first k early now sound le lasts accepted. (
-    begun_accepted n part tenant charged new first k early now sound le lasts accepted,
-    rest_answered n part tenant charged new first k early now sound le lasts accepted,
-    rest_left n part tenant charged new first k early now sound le lasts accepted,
+  accepted = λ n part tenant charged new first k early now sound le lasts finishes accepted. (
+    begun_accepted n part tenant charged new first k early now sound le lasts finishes accepted,
+    rest_answered n part tenant charged new first k early now sound le lasts finishes accepted,
+    rest_left n part tenant charged new first k early now sound le lasts finishes accepted,
   );
   refused = refused;
 }

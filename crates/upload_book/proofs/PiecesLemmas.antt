@@ -1,9 +1,10 @@
 -- A PATCH that comes in pieces.
-use Rattle.std.proofs.Common.{◌≡◌, ℕ, ◌+◌, ◌≤◌, Bool, true, false, true≢false, List, [], ◌∷◌, ◌++◌, length, take, drop, Option, Some, None, Result, Ok, Err, refl, sym, ap, subst, ◌∙◌, arith, append_assoc, length-append}
+use Rattle.std.proofs.Common.{◌≡◌, ℕ, ◌+◌, ◌≤◌, Bool, true, false, true≢false, List, [], ◌∷◌, ◌++◌, length, take, drop, Option, Some, None, Result, Ok, Err, refl, sym, ap, subst, ◌∙◌, arith, append_assoc, length-append, inl, inr, length-take, length-drop}
 use Rattle.std.specs.List.{All}
 use Rattle.std.specs.Result.{IsOk}
 use Rattle.std.proofs.lemmas.Bool.Decides.{nat_tests}
 use Rattle.std.proofs.lemmas.List.{take-append-drop}
+use Rattle.std.proofs.lemmas.List.Sums.{sum_by-cons}
 use Rattle.std.proofs.lemmas.List.Elements.{All-head, All-tail}
 use Rattle.upload_book.specs.Account.{account_in, account_with, blocks_added}
 use Rattle.upload_book.specs.declared.board_line.Account.{Account}
@@ -17,32 +18,20 @@ use Rattle.upload_book.specs.declared.head_row.Kind.{Kind}
 use Rattle.upload_book.specs.declared.head_row.Kind.TheVariants.{Plain, Partial, Final}
 use Rattle.upload_book.specs.declared.refusal.Refusal.{Refusal}
 use Rattle.upload_book.specs.declared.settings.Numbers.{Numbers}
-use Rattle.upload_book.specs.Expiry.{lifetime_end, renewed, has_expired}
-use Rattle.upload_book.specs.laws.Steps.{charged_after, first_part, later_part}
+use Rattle.upload_book.specs.Expiry.{has_expired}
+use Rattle.upload_book.specs.laws.Steps.{LastFinishes, charged_after, later_part}
 use Rattle.upload_book.specs.Lawful.{IsTenantOf, IsUploadOf}
-use Rattle.upload_book.specs.laws.PiecedPatch.{Patched, Piece, PiecedPatch, as_one, first_piece, goes_on, in_pieces}
+use Rattle.upload_book.specs.laws.PiecedPatch.{Patched, Piece, PiecedPatch, ahead_in, as_one, first_piece, goes_on, in_pieces}
 use Rattle.upload_book.specs.Refusal.{unless}
 use Rattle.upload_book.specs.TenantBook.{TenantBook, kept_in, visible_upload, with_changed}
 use Rattle.upload_book.specs.Upload.{Upload, content_of, offset_of, is_reached, head_row_of}
 use Rattle.upload_book.proofs.Charge.ChargeLemmas.{charge-append}
-use Rattle.upload_book.proofs.LawsLemmas.{Accepts, Accepts-from_ok, IsAppendable-first, IsAppendable-later, accounts_follow, answer_accepted, answer_of_upload, answer_where, append_answer-where, complete_later, end_of, fresh_after, never_after, or_else-twice, part_accepted}
+use Rattle.upload_book.proofs.LawsLemmas.{Accepts, Accepts-from_ok, IsAppendable-first, IsAppendable-later, accounts_follow, answer_accepted, answer_of_upload, answer_where, append_answer-where, end_of, fresh_append, part_accepted, upload_with-two}
 use Rattle.upload_book.proofs.Lawful.AppendLemmas.{part_after_append-refused}
 use Rattle.upload_book.proofs.Lawful.Entries.{kept_in-All, visible_in-changed, visible_in-fresh, visible_in-Ok, with_kept-twice}
 use Rattle.upload_book.proofs.Lawful.LawfulAppend.{IsAppendable, IsAppendable-from_none, IsTenantOf-append, append_refusal-none, content_of-append, fewer_blocks, offset_of-append}
 
 -- ---- moments
-
--- an end that is told later stands in place of one that was told before
-pub renewed-later : (kind : Kind) (early late : Bool) (before : Option ℕ) (first last : ℕ) → first ≤ last → (early ≡ true → late ≡ true)
-    → renewed kind late (renewed kind early before first) last ≡ renewed kind late before last
-renewed-later Plain early true before first last le grows = refl
-renewed-later Plain true false before first last le grows = absurd (true≢false (sym (grows refl)))
-renewed-later Plain false false before first last le grows = ap (λ end. Some end) (omega (arith, le))
-renewed-later Partial early late before first last le grows = ap (λ end. Some end) (omega (arith, le))
-renewed-later Final early late before first last le grows = refl
-
-pub lifetime_end-later : (n : Numbers) (early now : ℕ) → early ≤ now → lifetime_end n early ≤ lifetime_end n now
-lifetime_end-later n early now le = omega (arith, le)
 
 -- what has not expired had not expired before
 unexpired-earlier : (early now : ℕ) (expires : Option ℕ) → early ≤ now → has_expired now expires ≡ false → has_expired early expires ≡ false
@@ -56,44 +45,6 @@ visible-earlier part id early now u le is =
     rw (fresh.0, visible_in-Ok end_of part id now u is, unexpired-earlier early now u.expires le fresh.1) refl
 
 -- ---- the first piece, at an earlier moment
-
--- the two leave the same upload as the whole at the later moment
-upload_with-pieced : (n : Numbers) (account : Account) (u : Upload) (chunk : Chunk) (first later : List ℕ) (early now : ℕ) → early ≤ now → chunk.bytes ≡ first ++ later → IsAppendable n account u chunk
-    → upload_with n (upload_with n u (first_part chunk first) early) (later_part chunk first later) now ≡ upload_with n u chunk now
-upload_with-pieced n account u chunk first later early now le whole can =
-    rw (or_else-twice u.declared chunk.length, content, end) (ap (λ e. record grown { expires = e }) expiry)
-  where
-    declared : Option ℕ
-    declared = or_else u.declared chunk.length
-
-    after : Upload
-    after = upload_with n u (first_part chunk first) early
-
-    grown : Upload
-    grown = record u { declared = declared; segments = (content_of u ++ chunk.bytes) ∷ [] }
-
-    content : content_of after ++ later ≡ content_of u ++ chunk.bytes
-    content =
-        ap (λ l. l ++ later) (content_of-append n u (first_part chunk first) early) ∙ append_assoc (content_of u) first later ∙ ap (λ l. content_of u ++ l) (sym whole)
-
-    count : length chunk.bytes ≡ length first + length later
-    count = ap length whole ∙ length-append first later
-
-    end : offset_of after + length later ≡ offset_of u + length chunk.bytes
-    end = omega (arith, count, offset_of-append n u (first_part chunk first) early)
-
-    expiry : renewed u.kind (is_reached declared (offset_of u + length chunk.bytes)) after.expires (lifetime_end n now) ≡ renewed u.kind (is_reached declared (offset_of u + length chunk.bytes)) u.expires (lifetime_end n now)
-    expiry =
-        renewed-later u.kind (is_reached declared (offset_of u + length first)) (is_reached declared (offset_of u + length chunk.bytes)) u.expires (lifetime_end n early) (lifetime_end n now)
-        (lifetime_end-later n early now le)
-        (complete_later n declared (offset_of u + length first) (offset_of u + length chunk.bytes) (omega (arith, count)) can.fits)
-
--- it leaves an upload that is seen at the later moment
-fresh-pieced : (n : Numbers) (account : Account) (part : TenantBook) (u : Upload) (chunk : Chunk) (early now : ℕ) → IsAppendable n account u chunk → IsUploadOf n part u → has_expired now u.expires ≡ false
-    → has_expired now (upload_with n u chunk early).expires ≡ false
-fresh-pieced n account part u chunk early now can sound fresh =
-    fresh_after now u.kind (is_reached (or_else u.declared chunk.length) (offset_of u + length chunk.bytes)) u.expires (lifetime_end n early) fresh
-    (never_after n account part u chunk early u.kind can can.own sound.kind)
 
 -- the first piece has as many bytes in all
 count-piece : (chunk : Chunk) (first later : List ℕ) → chunk.bytes ≡ first ++ later → length first + (length later + chunk.more) ≡ count_all chunk
@@ -135,9 +86,9 @@ pub record GoesOn (n : Numbers) (part : TenantBook) (id charged : ℕ) (chunk : 
   pub grows_on : charge_in n (part_after_append id (first_piece chunk first later) early charged n part) ≤ charge_in n (part_after_append id chunk now charged n part)
 
 pub GoesOn-first : (n : Numbers) (part : TenantBook) (id charged : ℕ) (chunk : Chunk) (first later : List ℕ) (early now : ℕ) → IsTenantOf n part → early ≤ now → chunk.bytes ≡ first ++ later
-    → IsOk (append_answer id chunk now charged n part) → GoesOn n part id charged chunk first later early now
+    → LastFinishes n (length first) (length chunk.bytes) → IsOk (append_answer id chunk now charged n part) → GoesOn n part id charged chunk first later early now
 unfolding answer_of_upload
-GoesOn-first n part id charged chunk first later early now sound le whole accepted = record {
+GoesOn-first n part id charged chunk first later early now sound le whole finishes accepted = record {
   accepted = rw (answer_accepted n part id one early charged u seen can_one) refl;
   sound = subst (IsTenantOf n) (sym is_middle) (IsTenantOf-append n account part id u one early there none_one sound);
   answer = answer_two ∙ sym (answer_accepted n part id chunk now charged u found.visible can);
@@ -212,10 +163,10 @@ GoesOn-first n part id charged chunk first later early now sound le whole accept
 
     sees : visible_upload middle id now ≡ Ok after
     sees =
-        visible_in-changed end_of part id now u after found.visible (fresh-pieced n account part u one early now can_one sound_u (visible_in-fresh end_of part id now u found.visible).1)
+        visible_in-changed end_of part id now u after found.visible (fresh_append n account part u chunk first later early now can whole finishes sound_u (visible_in-fresh end_of part id now u found.visible).1)
 
     same : upload_with n after two now ≡ upload_with n u chunk now
-    same = upload_with-pieced n account u chunk first later early now le whole can
+    same = upload_with-two n account u chunk first later early now le whole finishes can
 
     answer_two : append_answer id two now (charged_after n charged part (part_after_append id one early charged n part)) n (part_after_append id one early charged n part) ≡ answer_of_upload (upload_with n u chunk now)
     answer_two =
@@ -243,18 +194,28 @@ patched answer part = record { answer = answer; part = part }
 as_one-same : (answer answer' : Result Appended Refused) (part part' : TenantBook) → answer ≡ answer' → part ≡ part' → patched answer part ≡ patched answer' part'
 as_one-same answer answer' part part' is after = rw (is, after) refl
 
+-- where the last bytes finish the upload, they do so behind the first piece,
+pub finishes-first : (n : Numbers) (p : Piece) (pieces : List Piece) (bytes : List ℕ) → LastFinishes n (ahead_in (p ∷ pieces)) (length bytes) → LastFinishes n (length (take p.len bytes)) (length bytes)
+finishes-first n p pieces bytes (inl stay) = inl stay
+finishes-first n p pieces bytes (inr some) = inr (omega (arith, some, sum_by-cons (λ (p : Piece). p.len) p pieces, length-take p.len bytes))
+
+-- and behind the others
+pub finishes-on : (n : Numbers) (p : Piece) (pieces : List Piece) (bytes : List ℕ) → LastFinishes n (ahead_in (p ∷ pieces)) (length bytes) → LastFinishes n (ahead_in pieces) (length (drop p.len bytes))
+finishes-on n p pieces bytes (inl stay) = inl stay
+finishes-on n p pieces bytes (inr some) = inr (omega (arith, some, sum_by-cons (λ (p : Piece). p.len) p pieces, length-drop p.len bytes))
+
 -- however it is cut
 all_accepted : (n : Numbers) (part : TenantBook) (id charged : ℕ) (chunk : Chunk) (pieces : List Piece) (now : ℕ) → IsTenantOf n part
-    → All (λ (p : Piece). p.now ≤ now) pieces
+    → All (λ (p : Piece). p.now ≤ now) pieces → LastFinishes n (ahead_in pieces) (length chunk.bytes)
     → IsOk (append_answer id chunk now charged n part)
     → in_pieces id chunk pieces now charged n part ≡ as_one id chunk now charged n part
-all_accepted n part id charged chunk [] now sound moments accepted = refl
-all_accepted n part id charged chunk (p ∷ pieces) now sound moments accepted =
+all_accepted n part id charged chunk [] now sound moments finishes accepted = refl
+all_accepted n part id charged chunk (p ∷ pieces) now sound moments finishes accepted =
     goes_on-accepted
     (append_answer id (first_piece chunk first later) p.now charged n part) middle
     (in_pieces id two pieces now (charged_after n charged part middle) n middle)
     on.accepted
-    ∙ all_accepted n middle id (charged_after n charged part middle) two pieces now on.sound (All-tail (λ (p : Piece). p.now ≤ now) p pieces moments) (subst IsOk (sym on.answer) accepted)
+    ∙ all_accepted n middle id (charged_after n charged part middle) two pieces now on.sound (All-tail (λ (p : Piece). p.now ≤ now) p pieces moments) (finishes-on n p pieces chunk.bytes finishes) (subst IsOk (sym on.answer) accepted)
     ∙ as_one-same _ _ _ _ on.answer on.after
   where
     first : List ℕ
@@ -270,7 +231,7 @@ all_accepted n part id charged chunk (p ∷ pieces) now sound moments accepted =
     middle = part_after_append id (first_piece chunk first later) p.now charged n part
 
     on : GoesOn n part id charged chunk first later p.now now
-    on = GoesOn-first n part id charged chunk first later p.now now sound (All-head (λ (p : Piece). p.now ≤ now) p pieces moments) (sym (take-append-drop p.len chunk.bytes)) accepted
+    on = GoesOn-first n part id charged chunk first later p.now now sound (All-head (λ (p : Piece). p.now ≤ now) p pieces moments) (sym (take-append-drop p.len chunk.bytes)) (finishes-first n p pieces chunk.bytes finishes) accepted
 
 -- ---- what is refused
 

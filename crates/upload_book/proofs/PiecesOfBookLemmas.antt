@@ -13,7 +13,7 @@ use Rattle.upload_book.specs.declared.append.Appended.{Appended}
 use Rattle.upload_book.specs.declared.append.Refused.{Refused}
 use Rattle.upload_book.specs.declared.head_row.Name.{Name}
 use Rattle.upload_book.specs.declared.settings.Numbers.{Numbers}
-use Rattle.upload_book.specs.laws.Steps.{later_part}
+use Rattle.upload_book.specs.laws.Steps.{LastFinishes, later_part}
 use Rattle.upload_book.specs.Lawful.{IsLawful}
 use Rattle.upload_book.specs.laws.PiecedPatch.{Piece, first_piece}
 use Rattle.upload_book.specs.laws.PiecedPatchOfBook.{PatchedBook, PiecedPatchOfBook, book_goes_on, book_in_pieces}
@@ -23,7 +23,7 @@ use Rattle.upload_book.specs.Upload.{offset_of}
 use Rattle.upload_book.proofs.Lawful.LawfulAppend.{IsAppendable, IsAppendable-from_none}
 use Rattle.upload_book.proofs.Lawful.SettingsLemmas.{max_size-within}
 use Rattle.upload_book.proofs.LawsLemmas.{Accepts, Accepts-from_ok}
-use Rattle.upload_book.proofs.PiecesLemmas.{GoesOn, GoesOn-first}
+use Rattle.upload_book.proofs.PiecesLemmas.{GoesOn, GoesOn-first, finishes-first, finishes-on}
 use Rattle.upload_book.proofs.Steps.BookLemmas.{IsLawful-append, IsTenantOf-book, book_with}
 
 -- a part after a part that pays no less leaves the totals of one change
@@ -61,8 +61,8 @@ ends_within : (n : Numbers) (offset_at offset most count : ℕ) → not (eqb off
 ends_within n offset_at offset most count same fits = grind (arith, nat_tests)
 
 pub BookGoesOn-first : (b : PlainBook) (name : Name) (chunk : Chunk) (first later : List ℕ) (early now : ℕ) → IsLawful b → name.tenant < length b.tenants → early ≤ now → chunk.bytes ≡ first ++ later
-    → IsOk (answer_of b name.tenant (append_answer name.id chunk now b.charged)) → BookGoesOn b name chunk first later early now
-BookGoesOn-first b name chunk first later early now lawful within le whole accepted = record {
+    → LastFinishes b.settings.numbers (length first) (length chunk.bytes) → IsOk (answer_of b name.tenant (append_answer name.id chunk now b.charged)) → BookGoesOn b name chunk first later early now
+BookGoesOn-first b name chunk first later early now lawful within le whole finishes accepted = record {
   accepted = on.accepted;
   lawful =
       subst (λ (m : TenantBook). IsLawful (with_tenant_book b name.tenant m)) (sym on.made)
@@ -96,7 +96,7 @@ BookGoesOn-first b name chunk first later early now lawful within le whole accep
     after = with_tenant_book b name.tenant middle
 
     on : GoesOn n part name.id b.charged chunk first later early now
-    on = GoesOn-first n part name.id b.charged chunk first later early now (IsTenantOf-book b name.tenant lawful within) le whole accepted
+    on = GoesOn-first n part name.id b.charged chunk first later early now (IsTenantOf-book b name.tenant lawful within) le whole finishes accepted
 
     seen : tenant_book after name.tenant ≡ middle
     seen = get_or-set_same b.tenants name.tenant middle (opening_part 0) within
@@ -120,10 +120,10 @@ same_patched : (answer answer' : Result Appended Refused) (book book' : PlainBoo
 same_patched answer answer' book book' is after = rw (is, after) refl
 
 pub pieced_patch_of_book : PiecedPatchOfBook
-pieced_patch_of_book b name chunk [] now lawful within moments accepted = refl
-pieced_patch_of_book b name chunk (p ∷ pieces) now lawful within moments accepted =
+pieced_patch_of_book b name chunk [] now lawful within moments finishes accepted = refl
+pieced_patch_of_book b name chunk (p ∷ pieces) now lawful within moments finishes accepted =
     book_goes_on-accepted (answer_of b name.tenant (append_answer name.id (first_piece chunk first later) p.now b.charged)) after (book_in_pieces name two pieces now after) on.accepted
-    ∙ pieced_patch_of_book after name two pieces now on.lawful on.within (All-tail (λ (p : Piece). p.now ≤ now) p pieces moments) (subst IsOk (sym on.answer) accepted)
+    ∙ pieced_patch_of_book after name two pieces now on.lawful on.within (All-tail (λ (p : Piece). p.now ≤ now) p pieces moments) (finishes-on b.settings.numbers p pieces chunk.bytes finishes) (subst IsOk (sym on.answer) accepted)
     ∙ same_patched _ _ _ _ on.answer on.last
   where
     first : List ℕ
@@ -139,4 +139,4 @@ pieced_patch_of_book b name chunk (p ∷ pieces) now lawful within moments accep
     after = book_after b name.tenant (part_after_append name.id (first_piece chunk first later) p.now b.charged)
 
     on : BookGoesOn b name chunk first later p.now now
-    on = BookGoesOn-first b name chunk first later p.now now lawful within (All-head (λ (p : Piece). p.now ≤ now) p pieces moments) (sym (take-append-drop p.len chunk.bytes)) accepted
+    on = BookGoesOn-first b name chunk first later p.now now lawful within (All-head (λ (p : Piece). p.now ≤ now) p pieces moments) (sym (take-append-drop p.len chunk.bytes)) (finishes-first b.settings.numbers p pieces chunk.bytes finishes) accepted

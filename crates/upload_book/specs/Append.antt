@@ -13,7 +13,7 @@ use Rattle.upload_book.specs.declared.refusal.Refusal.TheVariants.{IsFinal, Medi
 use Rattle.upload_book.specs.declared.settings.Numbers.{Numbers}
 use Rattle.upload_book.specs.declared.board_line.Account.{Account}
 use Rattle.upload_book.specs.Account.{account_in, account_with, blocks_added}
-use Rattle.upload_book.specs.Expiry.{lifetime_end, renewed}
+use Rattle.upload_book.specs.Expiry.{renewed}
 use Rattle.upload_book.specs.Refusal.{first_that_holds, unless}
 use Rattle.upload_book.specs.TenantBook.{TenantBook, with_changed, visible_upload}
 use Rattle.upload_book.specs.Upload.{Upload, content_of, is_reached, head_row_of}
@@ -78,7 +78,7 @@ row_with n row chunk now =
     record row {
       offset = offset;
       declared = declared;
-      expires = renewed row.kind (is_reached declared offset) row.expires (lifetime_end n now);
+      expires = renewed n row.kind (is_reached row.declared row.offset) (is_reached declared offset) row.expires now;
     }
 
 -- the row of an upload and the account of its tenant after a PATCH, or why it is refused

@@ -21,7 +21,7 @@ use Rattle.upload_book.specs.declared.terminate.Removed.{Removed}
 use Rattle.upload_book.specs.Account.{blocks_added}
 use Rattle.upload_book.specs.Append.{append_answer, append_lacking, appended, part_after_append}
 use Rattle.upload_book.specs.Chunk.{count_all}
-use Rattle.upload_book.specs.Concat.{concat_answer, final_upload, part_after_concat, parts_found}
+use Rattle.upload_book.specs.Concat.{concat_answer, joined_upload, part_after_concat}
 use Rattle.upload_book.specs.Create.{create_answer, created_upload, new_kind, part_after_create, TakesMemory}
 use Rattle.upload_book.specs.Heads.{accounts_of}
 use Rattle.upload_book.specs.Lawful.{IsConcatText, is_kept_metadata}
@@ -124,7 +124,7 @@ head_change b (Create tenant new first) now =
     put_created (created_upload b.settings.numbers new first.bytes now) (answer_of b tenant (create_answer tenant new first now b.charged))
 head_change b (Append name chunk) now = put_appended name (answer_of b name.tenant (appended name.id chunk now b.charged))
 head_change b (Concat tenant new) now =
-    put_created (final_upload (parts_found (tenant_book b tenant) now new.parts) new) (answer_of b tenant (concat_answer tenant new now))
+    put_created (joined_upload b.settings.numbers (tenant_book b tenant) new now) (answer_of b tenant (concat_answer tenant new now))
 head_change b (Terminate name) now = gone_removed name (answer_of b name.tenant (terminate_answer name.id now))
 head_change b Sweep now = Some (Swept now)
 head_change b (Restore restored) now = if is_some (piece_refusal b restored) then None else head_of_piece b restored

@@ -8,6 +8,7 @@ use Rattle.upload_book.specs.declared.head_row.Kind.TheVariants.{Plain, Partial,
 use Rattle.upload_book.specs.declared.refusal.Refusal.{Refusal}
 use Rattle.upload_book.specs.declared.refusal.Refusal.TheVariants.{TooLong, Part, PartOpen, Uploads, Spent}
 use Rattle.upload_book.specs.declared.settings.Numbers.{Numbers}
+use Rattle.upload_book.specs.Expiry.{finished_end}
 use Rattle.upload_book.specs.NewFinal.{NewFinal}
 use Rattle.upload_book.specs.Refusal.{first_that_holds, unless}
 use Rattle.upload_book.specs.TenantBook.{TenantBook, TenantPart, Entry, visible_in, with_new}
@@ -72,26 +73,30 @@ concat_refusal n part new now =
     let rows = rows_of (parts_found part now new.parts) in
     first_that_holds (concat_tests n part (are_there new.parts rows) (are_complete rows) (joined_len rows))
 
--- the final upload of these parts: their contents in this order. It is complete, and never expires.
-abbrev pub final_upload : List (Entry Upload) → NewFinal → Upload
-final_upload found new = record {
+-- the final upload of these parts, which expires then, if it does: their contents in this order. It is complete.
+abbrev pub final_upload : List (Entry Upload) → NewFinal → Option ℕ → Upload
+final_upload found new expires = record {
   kind = Final;
   parts = map {A = Entry Upload} {B = ℕ} (λ e. e.id) found;
   declared = Some (joined_len (rows_of found));
   segments = map {A = Entry Upload} {B = List ℕ} (λ e. content_of e.kept) found;
   metadata = new.metadata;
   concat = new.concat;
-  expires = None;
+  expires = expires;
 }
+
+-- the final upload that is joined now: it is finished
+abbrev pub joined_upload : Numbers → TenantBook → NewFinal → ℕ → Upload
+joined_upload n part new now = final_upload (parts_found part now new.parts) new (finished_end n now)
 
 -- the answer to a concatenation for the tenant at a place, whose part this is
 abbrev pub concat_answer : ℕ → NewFinal → ℕ → Numbers → TenantBook → Result Created Refusal
 concat_answer tenant new now n part =
-    unless (concat_refusal n part new now) (record { name = record { tenant = tenant; id = part.next }; expires = None })
+    unless (concat_refusal n part new now) (record { name = record { tenant = tenant; id = part.next }; expires = finished_end n now })
 
 -- the part after it
 abbrev pub part_after_concat : NewFinal → ℕ → Numbers → TenantBook → TenantBook
 part_after_concat new now n part = part_unless (concat_refusal n part new now) where
   part_unless : Option Refusal → TenantBook
-  part_unless None = with_new part (final_upload (parts_found part now new.parts) new)
+  part_unless None = with_new part (joined_upload n part new now)
   part_unless (Some refusal) = part

@@ -1,5 +1,5 @@
 -- The step of a creation (tus 1.0.0, Creation, Creation With Upload, Expiration, Checksum and Concatenation).
-use Rattle.std.specs.Prelude.{ℕ, ◌<◌, ◌⊎◌, Bool, not, ◌||◌, List, [], ◌∷◌, length, nat_lt, nat_le, Option, Some, None, unwrap_or, Result, if◌then◌else◌}
+use Rattle.std.specs.Prelude.{ℕ, ◌<◌, ◌⊎◌, Bool, false, not, ◌||◌, List, [], ◌∷◌, length, nat_lt, nat_le, Option, Some, None, unwrap_or, Result, if◌then◌else◌}
 use Rattle.upload_book.specs.Account.{account_in, account_with, blocks_added}
 use Rattle.upload_book.specs.Append.{is_too_long}
 use Rattle.upload_book.specs.Checksum.{is_mismatch, is_of_other_algorithm}
@@ -12,7 +12,7 @@ use Rattle.upload_book.specs.declared.head_row.Kind.TheVariants.{Plain, Partial}
 use Rattle.upload_book.specs.declared.refusal.Refusal.{Refusal}
 use Rattle.upload_book.specs.declared.refusal.Refusal.TheVariants.{Media, TooLong, Algorithm, Mismatch, Uploads, Spent, Quota}
 use Rattle.upload_book.specs.declared.settings.Numbers.{Numbers}
-use Rattle.upload_book.specs.Expiry.{lifetime_end, renewed}
+use Rattle.upload_book.specs.Expiry.{renewed}
 use Rattle.upload_book.specs.Refusal.{first_that_holds, unless}
 use Rattle.upload_book.specs.TenantBook.{TenantBook, with_new}
 use Rattle.upload_book.specs.Upload.{Upload, is_reached}
@@ -51,9 +51,9 @@ upload_from new bytes expires = record {
   expires = expires;
 }
 
--- when a new upload with so many bytes expires: as one that is touched now, and did not expire before
+-- when a new upload with so many bytes expires: as one that is touched now, and neither expired before nor was complete
 abbrev pub first_end : Numbers → NewUpload → ℕ → ℕ → Option ℕ
-first_end n new len now = renewed (new_kind new.partial) (is_reached new.length len) None (lifetime_end n now)
+first_end n new len now = renewed n (new_kind new.partial) false (is_reached new.length len) None now
 
 -- the upload that is created now with these bytes
 abbrev pub created_upload : Numbers → NewUpload → List ℕ → ℕ → Upload

@@ -4,7 +4,7 @@ use Rattle.upload_book.specs.declared.change.Change.{Change}
 use Rattle.upload_book.specs.declared.change.Change.TheVariants as change
 use Rattle.upload_book.specs.declared.head_row.Name.{Name}
 use Rattle.upload_book.specs.Change.{book_after_change}
-use Rattle.upload_book.specs.Concat.{concat_answer, final_upload, parts_found}
+use Rattle.upload_book.specs.Concat.{concat_answer, joined_upload}
 use Rattle.upload_book.specs.NewFinal.{NewFinal}
 use Rattle.upload_book.specs.PlainBook.{PlainBook, answer_of, tenant_book}
 use Rattle.upload_book.specs.TenantBook.{kept_in}
@@ -39,4 +39,4 @@ pub record IsJoinedBy (b : PlainBook) (e : ChangeEvent) (name : Name) (u : Uploa
   pub is : e.change ≡ change.Concat name.tenant new
   pub accepted : IsOk (answer_of b name.tenant (concat_answer name.tenant new e.now))
   pub id : name.id ≡ (tenant_book b name.tenant).next
-  pub upload : u ≡ final_upload (parts_found (tenant_book b name.tenant) e.now new.parts) new
+  pub upload : u ≡ joined_upload b.settings.numbers (tenant_book b name.tenant) new e.now

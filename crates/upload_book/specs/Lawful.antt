@@ -1,5 +1,5 @@
 -- What every book that steps reach keeps.
-use Rattle.std.specs.Prelude.{◌≡◌, ℕ, ◌+◌, ◌<◌, ◌≤◌, ◌↔◌, Bool, true, List, [], length, flat_map, map, zip, Some, None, IfSome, IsSome, IsTrue, All, Contains, codes}
+use Rattle.std.specs.Prelude.{◌≡◌, ℕ, ◌+◌, ◌<◌, ◌≤◌, Bool, true, List, [], length, flat_map, map, zip, Some, IfSome, IsTrue, All, Contains, codes}
 use Rattle.std.specs.List.{sum_by}
 use Rattle.std.specs.List.Sorted.{IsStrictlyIncreasing}
 use Rattle.tus_text.specs.Concat.{concat_of}
@@ -11,8 +11,9 @@ use Rattle.upload_book.specs.declared.head_row.Kind.TheVariants.{Plain, Partial,
 use Rattle.upload_book.specs.declared.settings.Numbers.{Numbers}
 use Rattle.upload_book.specs.declared.settings.TenantQuota.{TenantQuota}
 use Rattle.upload_book.specs.Charge.{charge_in}
+use Rattle.upload_book.specs.Expiry.{may_end}
 use Rattle.upload_book.specs.Settings.{AreSound}
-use Rattle.upload_book.specs.Upload.{Upload, content_of, offset_of, IsComplete}
+use Rattle.upload_book.specs.Upload.{Upload, content_of, is_complete, offset_of, IsComplete}
 use Rattle.upload_book.specs.TenantBook.{Entry, TenantBook, kept_in}
 use Rattle.upload_book.specs.PlainBook.{PlainBook}
 
@@ -50,17 +51,19 @@ pub record IsWhole (u : Upload) : Type 0 where
   pub segment : length u.segments ≡ 1
   pub parts : u.parts ≡ []
 
--- an upload of its own expires until it is complete, a partial one always, a final one never
+-- an upload that is not final is whole, and a final one has its parts and all of its bytes
 abbrev pub IsOfKind : TenantBook → Upload → Kind → Type 0
-IsOfKind part u Plain = IsWhole u × (IsSome u.expires ↔ ¬ (IsComplete u))
-IsOfKind part u Partial = IsWhole u × IsSome u.expires
-IsOfKind part u Final = HasParts part u × IsComplete u × (u.expires ≡ None)
+IsOfKind part u Plain = IsWhole u
+IsOfKind part u Partial = IsWhole u
+IsOfKind part u Final = HasParts part u × IsComplete u
 
--- an upload is within its length and the greatest size, as its kind asks, and its texts are of their forms
+-- an upload is within its length and the greatest size, and as its kind asks; it may have its end; and its texts are of their
+-- forms
 pub record IsUploadOf (n : Numbers) (part : TenantBook) (u : Upload) : Type 0 where
   pub within : IfSome u.declared (λ declared. (offset_of u ≤ declared) × (declared ≤ n.max_size))
   pub size : offset_of u ≤ n.max_size
   pub kind : IsOfKind part u u.kind
+  pub ends : may_end n u.kind (is_complete u) u.expires ≡ true
   pub metadata : IsTrue (is_kept_metadata u.metadata)
   pub concat : IsConcatText u.kind u.concat
 

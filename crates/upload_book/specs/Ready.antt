@@ -13,6 +13,7 @@ use Rattle.upload_book.specs.declared.ready.ReadyBack.{ReadyBack}
 use Rattle.upload_book.specs.declared.ready.ReadyChunk.{ReadyChunk}
 use Rattle.upload_book.specs.Concat.{concat_refusal, joined_len}
 use Rattle.upload_book.specs.Create.{creation_refusal, first_end, new_kind}
+use Rattle.upload_book.specs.Expiry.{finished_end}
 use Rattle.upload_book.specs.FirstChunk.{count_all_first}
 use Rattle.upload_book.specs.declared.ready.ReadyEnd.{ReadyEnd}
 use Rattle.upload_book.specs.declared.ready.ReadyFinal.{ReadyFinal}
@@ -75,8 +76,8 @@ pub record IsListed (s : BlockStore) (tenant : ℕ) (r : ReadyFinal) : Type 0 wh
   pub empty : r.pieces.items ≡ []
   pub room : length r.unheld.items ≤ vec_capacity r.pieces
 
--- The book is ready for a concatenation: it refuses nothing, there are 1 to 32 parts, which are so long together, the
--- texts are of their forms, and the pieces of the parts are listed.
+-- The book is ready for a concatenation: it refuses nothing, there are 1 to 32 parts, which are so long together, the upload
+-- will expire then, the texts are of their forms, and the pieces of the parts are listed.
 pub record IsReadyForFinal (b : StoredBook) (r : ReadyFinal) : Type 0 where
   pub there : r.tenant < length b.settings.tenants
   pub some : 0 < length r.new.parts
@@ -85,6 +86,7 @@ pub record IsReadyForFinal (b : StoredBook) (r : ReadyFinal) : Type 0 where
   pub concat : IsConcatText Final r.new.concat
   pub accepted : concat_refusal b.settings.numbers (tenant_book (plain_of b) r.tenant) r.new r.now ≡ None
   pub len : r.len ≡ joined_len (rows_at b.store r.tenant r.new.parts r.now)
+  pub expires : r.expires ≡ finished_end b.settings.numbers r.now
   pub listed : IsListed b.store r.tenant r
   pub texts : IsTextsFor b.settings.numbers.uploads r.texts r.new.metadata r.new.concat
 

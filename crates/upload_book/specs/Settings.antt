@@ -8,7 +8,7 @@ use Rattle.upload_book.specs.declared.settings.Bounds.TheVariants.{Narrow, Wide}
 use Rattle.upload_book.specs.declared.settings.Numbers.{Numbers}
 use Rattle.upload_book.specs.declared.settings.TenantQuota.{TenantQuota}
 use Rattle.upload_book.specs.declared.settings_fault.SettingsFault.{SettingsFault}
-use Rattle.upload_book.specs.declared.settings_fault.SettingsFault.TheVariants.{Blocks, BlockSize, PoolBytes, Lifetime, MaxSize, Uploads, LastId, TenantCount, TenantName, TenantTwice, Quota}
+use Rattle.upload_book.specs.declared.settings_fault.SettingsFault.TheVariants.{Blocks, BlockSize, PoolBytes, Lifetime, FinishedLifetime, MaxSize, Uploads, LastId, TenantCount, TenantName, TenantTwice, Quota}
 use Rattle.upload_book.specs.Refusal.{first_that_holds}
 
 -- the numbers, and the tenants in the order in which they were given
@@ -65,6 +65,7 @@ number_tests bounds n =
     ∷ (is_outside n.block_size (block_size_limit bounds), BlockSize)
     ∷ (nat_lt (pool_limit bounds) (n.blocks * n.block_size), PoolBytes)
     ∷ (is_outside n.lifetime 31536000, Lifetime)
+    ∷ (nat_lt 31536000 n.finished_lifetime, FinishedLifetime)
     ∷ (is_outside n.max_size (size_limit bounds), MaxSize)
     ∷ (is_outside n.uploads (uploads_limit bounds), Uploads)
     ∷ (is_outside n.last_id (2 ^ 64 - 2), LastId)
@@ -100,6 +101,7 @@ fault_word Blocks = codes "blocks"
 fault_word BlockSize = codes "block-size"
 fault_word PoolBytes = codes "pool-bytes"
 fault_word Lifetime = codes "lifetime"
+fault_word FinishedLifetime = codes "finished-lifetime"
 fault_word MaxSize = codes "max-size"
 fault_word Uploads = codes "uploads"
 fault_word LastId = codes "last-id"

@@ -91,8 +91,9 @@ pub struct Refused {
 
 impl Book {
     /// Adds the bytes of a PATCH at the end of an upload. They are copied once. The upload gets the
-    /// length that the PATCH tells where it had none; one of its own that is now complete does not
-    /// expire, and any other expires a lifetime after `now`, or as before where that is later.
+    /// length that the PATCH tells where it had none. One of its own that it finishes expires as finished ones do, where
+    /// these end by themselves, and one that was finished before as it did; any other expires a lifetime after `now`, or as
+    /// before where that is later.
     ///
     /// Its tenant pays the blocks that its bytes take beyond the room in the upload's last block. A PATCH without
     /// bytes touches no block, also where other uploads hold the last one.

@@ -411,7 +411,8 @@ impl BlockStore {
         requires texts { IsTextsFor self.old.room ready.texts ready.new.metadata ready.new.concat }
         ensures plain { plain_in self.new ≡ set (plain_in self.old) tenant
             (with_new (part_at self.old tenant)
-            (final_upload (parts_found (part_at self.old tenant) ready.entry.now ready.entry.new.parts) ready.entry.new)) }
+            (final_upload (parts_found (part_at self.old tenant) ready.entry.now ready.entry.new.parts) ready.entry.new
+            ready.entry.expires)) }
         ensures joins { Joins self.old self.new tenant ready.entry.new ready.entry.now }
         ensures sizes { SameSizes self.old.pool self.new.pool }
         ensures room_stays { self.new.room ≡ self.old.room }
@@ -421,6 +422,7 @@ impl BlockStore {
         let ReadyFinal {
             new,
             len,
+            expires,
             unheld,
             pieces,
             texts,
@@ -431,7 +433,7 @@ impl BlockStore {
         let stored_tenant = &mut self.stored_tenants[tenant];
         let spare = &mut stored_tenant.spare;
         let texts = UploadTexts::placed(spare, texts, new.metadata, new.concat);
-        let upload = StoredUpload::joined(stored_tenant.next, &new, pieces, len, texts);
+        let upload = StoredUpload::joined(stored_tenant.next, &new, pieces, len, expires, texts);
         stored_tenant.uploads.push_reserved(upload);
         stored_tenant.next += 1;
     }
@@ -525,6 +527,7 @@ impl BlockStore {
             &upload.as_final(),
             pieces,
             len,
+            upload.expires,
             texts,
         );
         stored_tenant.uploads.push_reserved(upload);

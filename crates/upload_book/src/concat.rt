@@ -13,6 +13,7 @@ ghost use Rattle.upload_book.specs.BlockStore.{part_at, Joins};
 use crate::block_store::BlockStore;
 use crate::book::Book;
 use crate::create::Created;
+use crate::expiry::finished_end;
 use crate::head_row::Name;
 use crate::moment::Moment;
 use crate::parts_seen::PartsSeen;
@@ -49,7 +50,8 @@ impl<'a> Model for NewFinal<'a> {
 impl Book {
     /// Joins partial uploads of the tenant at this place to a final one, under the next id. No byte is
     /// copied, and no block taken: the final upload holds the blocks of its parts, once more for each time
-    /// that a part is named, and keeps them where the parts end. The tenant pays nothing for it.
+    /// that a part is named, and keeps them where the parts end. The tenant pays nothing for it. It expires as finished
+    /// uploads do, where these end by themselves.
     ///
     /// It is refused, in this order, as TooLong where each part is a visible partial upload that has all
     /// of its bytes and they are more than the greatest size together, as Part where a part is no visible
@@ -115,6 +117,7 @@ impl Book {
                 new,
                 now,
                 len: seen.len,
+                expires: finished_end(numbers, now),
                 unheld,
                 pieces,
                 texts,
@@ -133,13 +136,16 @@ impl Book {
         ensures shared { Joins self.old.store self.new.store ready.entry.tenant ready.entry.new ready.entry.now }
     {
         let tenant = ready.tenant;
+        let expires = ready.expires;
         let place = usize::from(tenant);
         let id = self.store.next(place);
-        self.store.join(place, ready);
-        Created {
+        let created = Created {
             name: Name { tenant, id },
-            expires: None,
-        }
+            expires,
+        };
+        self.store.join(place, ready);
+        self.expiries.set_end(created.name, None, created.expires);
+        created
     }
 }
 

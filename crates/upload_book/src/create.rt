@@ -14,7 +14,7 @@ use crate::block_store::BlockStore;
 use crate::board_line::Account;
 use crate::book::Book;
 use crate::checksum::{is_mismatch, is_of_other_algorithm};
-use crate::expiry::{lifetime_end, renewed};
+use crate::expiry::renewed;
 use crate::head_row::{Kind, Name};
 use crate::moment::Moment;
 use crate::payload::Payload;
@@ -70,7 +70,7 @@ impl<'a> NewUpload<'a> {
         ensures { result ≡ first_end numbers.now self.now len now }
     {
         let is_complete = self.length == Some(len);
-        renewed(self.kind(), is_complete, None, lifetime_end(numbers, now))
+        renewed(numbers, self.kind(), false, is_complete, None, now)
     }
 }
 
@@ -148,8 +148,8 @@ impl Book {
     }
 
     /// Creates an upload of the tenant at this place, under the next id, with its first bytes. They are copied
-    /// once. One of its own that is complete with them does not expire, and any other expires a lifetime after
-    /// `now`. Its tenant pays the blocks that the bytes take.
+    /// once. One of its own that is complete with them expires as finished ones do, where these end by themselves, and any
+    /// other a lifetime after `now`. Its tenant pays the blocks that the bytes take.
     ///
     /// It is refused by the first of these that applies: Media; TooLong, where the length is above the greatest
     /// size, or the bytes go past the length; Algorithm; Mismatch; Uploads, where the tenant has its greatest

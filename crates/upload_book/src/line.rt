@@ -135,7 +135,7 @@ impl Book {
     {
         // the numbers tell what is kept of the book
         let _in_range = self.settings.numbers();
-        let row = ready.new.row(ready.len);
+        let row = ready.new.row(ready.len, ready.expires);
         HeadChange::Put(self.next_name(ready.tenant), row.copied())
     }
 
@@ -257,7 +257,7 @@ impl Book {
             result }
     {
         let numbers = self.settings.numbers();
-        let row = ready.new.row(ready.len);
+        let row = ready.new.row(ready.len, ready.expires);
         created(numbers, ready.tenant, row, &ready.texts)
     }
 
@@ -396,8 +396,8 @@ impl<'a> FirstChunk<'a> {
 }
 
 impl<'a> NewFinal<'a> {
-    // What a HEAD tells of it once it has so many bytes: it is complete, and never expires.
-    fn row(&self, len: u64) -> RowRef<'a>
+    // What a HEAD tells of it once it has so many bytes and this end: it is complete.
+    fn row(&self, len: u64, expires: Option<Moment>) -> RowRef<'a>
         requires metadata { IsTrue (is_kept_metadata self.now.metadata) }
         requires concat { IsConcatText Final self.now.concat }
         ensures { result ≡ record {
@@ -406,13 +406,13 @@ impl<'a> NewFinal<'a> {
           declared = Some len;
           metadata = self.now.metadata;
           concat = self.now.concat;
-          expires = None;
+          expires = expires;
         } }
     {
         let growth = Growth {
             offset: len,
             declared: Some(len),
-            expires: None,
+            expires,
         };
         RowRef::new(Kind::Final, growth, self.metadata, self.concat)
     }

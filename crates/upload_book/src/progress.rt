@@ -7,7 +7,7 @@ ghost use Rattle.upload_book.specs.Upload.{is_reached};
 use crate::append::Chunk;
 use crate::board_line::Account;
 use crate::checksum::{is_mismatch, is_of_other_algorithm};
-use crate::expiry::{lifetime_end, renewed};
+use crate::expiry::renewed;
 use crate::head_row::Kind;
 use crate::moment::Moment;
 use crate::refusal::Refusal;
@@ -41,12 +41,20 @@ impl Progress {
     {
         let declared = self.declared.or(chunk.length);
         let offset = self.offset + chunk.bytes.len() as u64;
-        let end = lifetime_end(numbers, now);
+        let was_complete = self.is_complete();
+        let is_complete = declared == Some(offset);
         Progress {
             kind: self.kind,
             offset,
             declared,
-            expires: renewed(self.kind, declared == Some(offset), self.expires, end),
+            expires: renewed(
+                numbers,
+                self.kind,
+                was_complete,
+                is_complete,
+                self.expires,
+                now,
+            ),
         }
     }
 }

@@ -73,6 +73,8 @@ pub(crate) struct ReadyFinal<'a> {
     pub(crate) now: Moment,
     /// How many bytes its parts have together.
     pub(crate) len: u64,
+    /// When the upload will expire, if it does.
+    pub(crate) expires: Option<Moment>,
     /// The pieces of its parts, whose blocks are not held for it yet.
     pub(crate) unheld: Vec<UnheldPiece>,
     /// An empty list with room for them once they are.

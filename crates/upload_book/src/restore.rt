@@ -148,9 +148,11 @@ impl Book {
             ≡ book_after_piece (plain_of self.old) (piece.Upload ready.entry.tenant ready.entry.upload) }
     {
         let place = usize::from(ready.tenant);
+        let created = ready.upload.created(ready.tenant);
         // the numbers tell that what may be charged in all is a number
         let _in_range = self.settings.numbers();
         self.charged += self.store.put_back(place, ready);
+        self.expiries.set_end(created.name, None, created.expires);
     }
 
     // Finds whether a tenant's next id is put back. It changes nothing.
@@ -298,7 +300,7 @@ fn own_refusal(
     let last_total = numbers.last_total;
     let added = len.div_ceil(numbers.block_size);
     let is_complete = upload.declared == Some(len);
-    if upload.id != store.next(tenant) || !upload.ends_rightly(is_complete) {
+    if upload.id != store.next(tenant) || !upload.ends_rightly(numbers, is_complete) {
         Some(Refusal::Field)
     } else if most > numbers.max_size || len > most {
         Some(Refusal::TooLong)
@@ -337,7 +339,7 @@ fn refusal_within(
     requires { tenant < length store.now.stored_tenants }
     ensures { result ≡ first_that_holds (final_tests numbers.now (part_at store.now tenant) upload.now left.now) }
 {
-    if !upload.ends_rightly(left.bytes == Some(0)) {
+    if !upload.ends_rightly(numbers, left.bytes == Some(0)) {
         Some(Refusal::Field)
     } else if upload.declared.unwrap_or(numbers.max_size) > numbers.max_size {
         Some(Refusal::TooLong)

@@ -1,10 +1,12 @@
 use crate::concat::NewFinal;
-use crate::create::NewUpload;
+use crate::create::{Created, NewUpload};
+use crate::expiry::may_end;
 use crate::final_back::brought_in;
 use crate::head_note::Growth;
 use crate::head_row::{Kind, Name};
 use crate::moment::Moment;
 use crate::row_ref::RowRef;
+use crate::settings::Numbers;
 use std::marker::Model;
 
 /// A piece of a book that is put back.
@@ -122,14 +124,24 @@ impl<'a> RestoredUpload<'a> {
         }
     }
 
-    /// Whether it ends as its kind asks, where it is complete or not.
-    pub(crate) fn ends_rightly(&self, complete: bool) -> bool
-        ensures { result ≡ ends_rightly self.now.kind complete self.now.expires }
+    /// Whether it may have its end, where it is complete or not; a final one has to be complete.
+    pub(crate) fn ends_rightly(&self, numbers: &Numbers, complete: bool) -> bool
+        ensures { result ≡ ends_rightly numbers.now self.now.kind complete self.now.expires }
     {
-        match self.kind {
-            Kind::Plain => self.expires.is_some() != complete,
-            Kind::Partial => self.expires.is_some(),
-            Kind::Final => complete && self.expires.is_none(),
+        may_end(numbers, self.kind, complete, self.expires)
+            && (complete || self.kind != Kind::Final)
+    }
+
+    /// Its name, as one of the tenant at this place, and its end.
+    pub(crate) fn created(&self, tenant: u8) -> Created
+        ensures { result ≡ record {
+          name = record { tenant = tenant; id = self.now.id };
+          expires = self.now.expires;
+        } }
+    {
+        Created {
+            name: self.name(tenant),
+            expires: self.expires,
         }
     }
 

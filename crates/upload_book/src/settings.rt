@@ -87,6 +87,9 @@ pub struct Numbers {
     /// For how many seconds an upload that expires is kept after its last PATCH, or after its creation: 1
     /// to 31,536,000.
     pub lifetime: u64,
+    /// For how many seconds an upload stays that is finished: one of its own that has all its bytes, or a final one. 0, where
+    /// it stays until it is deleted, to 31,536,000.
+    pub finished_lifetime: u64,
     /// The most bytes of an upload: 1 to 16,777,216, or to 2^40 under the wide bounds.
     pub max_size: u64,
     /// The most uploads that the book keeps for a tenant: 1 to 64, or to 65,536 under the wide bounds.
@@ -245,6 +248,8 @@ fn number_fault(bounds: Bounds, numbers: Numbers) -> Option<SettingsFault>
         Some(SettingsFault::PoolBytes)
     } else if is_outside(numbers.lifetime, 31_536_000) {
         Some(SettingsFault::Lifetime)
+    } else if numbers.finished_lifetime > 31_536_000 {
+        Some(SettingsFault::FinishedLifetime)
     } else if is_outside(numbers.max_size, bounds.size_limit()) {
         Some(SettingsFault::MaxSize)
     } else if is_outside(numbers.uploads, bounds.uploads_limit()) {

@@ -16,6 +16,8 @@ pub enum SettingsFault {
     PoolBytes,
     /// The lifetime is outside 1 to 31,536,000 seconds.
     Lifetime,
+    /// The lifetime of finished uploads is above 31,536,000 seconds.
+    FinishedLifetime,
     /// The greatest size is outside 1 to 16,777,216 bytes, or 1 to 2^40 under the wide bounds.
     MaxSize,
     /// The number of uploads of a tenant is outside 1 to 64, or 1 to 65,536 under the wide bounds.
@@ -42,6 +44,7 @@ impl SettingsFault {
             SettingsFault::BlockSize => "block-size",
             SettingsFault::PoolBytes => "pool-bytes",
             SettingsFault::Lifetime => "lifetime",
+            SettingsFault::FinishedLifetime => "finished-lifetime",
             SettingsFault::MaxSize => "max-size",
             SettingsFault::Uploads => "uploads",
             SettingsFault::LastId => "last-id",

@@ -99,25 +99,26 @@ impl StoredUpload {
         }
     }
 
-    /// A final upload of these pieces, which are so many bytes together. Its texts lie there.
+    /// A final upload of these pieces, which are so many bytes together, and with this end. Its texts lie there.
     pub(crate) fn joined(
         id: u64,
         new: &NewFinal,
         pieces: Vec<Piece>,
         len: u64,
+        expires: Option<Moment>,
         texts: UploadTexts,
     ) -> StoredUpload
         requires metadata { IsTrue (is_kept_metadata new.now.metadata) }
         requires concat { IsConcatText Final new.now.concat }
         requires texts { (metadata_in texts ≡ new.now.metadata) × (concat_in texts ≡ new.now.concat) }
         requires len { len ≡ pieces_len pieces.items }
-        ensures { result ≡ record { id = id; kept = final_of (is_boxed texts) new.now pieces.items } }
+        ensures { result ≡ record { id = id; kept = final_of (is_boxed texts) new.now pieces.items expires } }
     {
         StoredUpload {
             id,
             held: HeldBytes::Joined { len, pieces },
             declared: Some(len),
-            expires: None,
+            expires,
             texts,
         }
     }

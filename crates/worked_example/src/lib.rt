@@ -13,6 +13,7 @@ pub const NUMBERS: Numbers = Numbers {
     blocks: 12,
     block_size: 4,
     lifetime: 3600,
+    finished_lifetime: 0,
     max_size: 64,
     uploads: 64,
     last_id: u64::MAX - 1,

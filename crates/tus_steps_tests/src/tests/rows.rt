@@ -41,11 +41,15 @@ pub(crate) use second;
 
 /// Asks a new book what the rows ask, in turn.
 pub(crate) fn check(rt: &impl Abort, alloc: Global, rows: &[Row]) -> Result<(), Fail> {
-    let mut book = book(alloc)?;
+    check_at(rt, book(alloc)?, rows);
+    Ok(())
+}
+
+/// Asks a book what the rows ask, in turn.
+pub(crate) fn check_at(rt: &impl Abort, mut book: Book, rows: &[Row]) {
     for (place, row) in rows.iter().enumerate() {
         check_row(rt, &mut book, place, row);
     }
-    Ok(())
 }
 
 // Asks a book what the row at a place asks.

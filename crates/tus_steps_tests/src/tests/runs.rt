@@ -218,6 +218,7 @@ impl Server {
             blocks: 16,
             block_size: 4,
             lifetime: 100,
+            finished_lifetime: 0,
             max_size: 16,
             uploads: 8,
             last_id: 48,

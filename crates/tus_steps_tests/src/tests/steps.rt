@@ -1,13 +1,14 @@
 //! The worked rows of the steps.
 use crate::tests::requests::{Sent, TYPED};
-use crate::tests::rows::{Row, check, rows};
+use crate::tests::rows::{Row, check, check_at, rows};
 use crate::tests::told::Told::{
     Bare, Bytes, Created, Deleted, Options, Patched, Refused, Row as Shown,
 };
 use std::test::Fail;
 use tus_steps::Field::{Absent, Many, One};
 use tus_steps::{Method, TusFields};
-use upload_book::Refusal;
+use upload_book::{Book, Numbers, Refusal};
+use worked_example::{NUMBERS, settings_of};
 
 static AN_UPLOAD_GROWS_TO_ITS_END: [Row; 9] = rows! {
     Post b"/files/acme" [length: One(b"10")] b"" => Created(1, None, Some(4600));
@@ -181,4 +182,28 @@ static AN_EXPIRED_UPLOAD_IS_GONE: [Row; 5] = rows! {
 #[test]
 fn an_expired_upload_is_gone(rt: HostRuntime) -> Result<(), Fail> {
     check(&rt, rt.alloc(), &AN_EXPIRED_UPLOAD_IS_GONE)
+}
+
+// Where finished uploads end after 100 seconds, the reply that finishes one tells its end.
+static FINISHED_UPLOADS_END: [Row; 9] = rows! {
+    Post b"/files/acme" [length: One(b"5")] b"" => Created(1, None, Some(4600));
+    Patch b"/files/acme/1" [offset: One(b"0"), media: TYPED] b"hello" => Patched(5, Some(1100));
+    1050 Patch b"/files/acme/1" [offset: One(b"5"), media: TYPED] b"" => Patched(5, Some(1100));
+    1050 Post b"/files/acme" [length: One(b"2"), media: TYPED] b"ab" => Created(2, Some(2), Some(1150));
+    1050 Post b"/files/acme" [length: One(b"0"), concat: One(b"partial")] b"" => Created(3, None, Some(4650));
+    1060 Post b"/files/acme" [concat: One(b"final;/files/acme/3")] b"" => Created(4, None, Some(1160));
+    1099 Get b"/files/acme/1" [] b"" => Bytes(b"hello");
+    1100 Get b"/files/acme/1" [] b"" => Refused(Refusal::Gone, None);
+    1160 Delete b"/files/acme/4" [] b"" => Refused(Refusal::Gone, None);
+};
+
+#[test]
+fn finished_uploads_end(rt: HostRuntime) -> Result<(), Fail> {
+    let numbers = Numbers {
+        finished_lifetime: 100,
+        ..NUMBERS
+    };
+    let book = Book::new(rt.alloc(), settings_of(numbers)?)?;
+    check_at(&rt, book, &FINISHED_UPLOADS_END);
+    Ok(())
 }

@@ -17,7 +17,7 @@ use Rattle.upload_book.specs.Settings.{Settings}
 use Rattle.upload_book.specs.TenantBook.{TenantBook, Entry, opening_part}
 use Rattle.upload_book.specs.Upload.{Upload}
 use Rattle.upload_book.proofs.Expiries.BookEnds.{HasEnd, ends-with, kept_in-above}
-use Rattle.upload_book.proofs.Expiries.EndsLemmas.{AreExpiring-same, AreExpiring-stays, KnowsEnd-told, with_end-other, with_end-same}
+use Rattle.upload_book.proofs.Expiries.EndsLemmas.{AreExpiring-same, KnowsEnd-told, with_end-other, with_end-same}
 use Rattle.upload_book.proofs.Expiries.FewEnds.{expiries-few, expiries-room}
 
 -- a list has no upload where none expires
@@ -92,8 +92,3 @@ module _ {b : PlainBook} {list : List Expiring} {t id : ℕ} {part : TenantBook}
   pub AreExpiries-renewed : (new : List Expiring) → AreExpiring (with_end (ends_of b) name end) new → AreExpiries later new
   AreExpiries-renewed new is =
       AreExpiring-same (with_end (ends_of b) name end) (ends_of later) new (ends-with b t id part end r.within r.has) is
-
--- where a new upload never expires, the list stays
-pub AreExpiries-stays : {b : PlainBook} {list : List Expiring} {t id : ℕ} {part : TenantBook} (r : IsRenewed b list t id part None None) → AreExpiries (with_tenant_book b t part) list
-AreExpiries-stays {b} {list} {t} {id} r =
-    AreExpiries-renewed r list (AreExpiring-stays (ends_of b) (record { tenant = t; id = id }) None list r.was r.are)

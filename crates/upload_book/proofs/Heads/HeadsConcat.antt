@@ -1,7 +1,7 @@
 -- The heads of a book follow a concatenation.
 use Rattle.std.proofs.Common.{◌≡◌, ℕ, ◌<◌, length, Option, Some, None, refl, ap}
 use Rattle.upload_book.specs.Change.{book_after_change, head_change, put_created}
-use Rattle.upload_book.specs.Concat.{concat_refusal, final_upload, part_after_concat, parts_found}
+use Rattle.upload_book.specs.Concat.{concat_refusal, joined_upload, part_after_concat}
 use Rattle.upload_book.specs.declared.board_line.HeadChange.TheVariants.{Put}
 use Rattle.upload_book.specs.declared.change.Change.TheVariants.{Concat}
 use Rattle.upload_book.specs.declared.refusal.Refusal.{Refusal}
@@ -28,11 +28,11 @@ heads-concat b t new now lawful within asked =
   where
     by_refusal : (found : Option Refusal) → concat_refusal b.settings.numbers (tenant_book b t) new now ≡ found → IsFollowed b (book_after_change b (Concat t new) now) (head_change b (Concat t new) now)
     by_refusal None none =
-        let u : Upload = final_upload (parts_found (tenant_book b t) now new.parts) new in
+        let u : Upload = joined_upload b.settings.numbers (tenant_book b t) new now in
         followed-part b t _ (with_new (tenant_book b t) u) _ (Put (next_name b t) (head_row_of u))
         (ap (put_created u) (concat_answer-none t b.settings.numbers (tenant_book b t) new now none))
         (part_after_concat-none b.settings.numbers (tenant_book b t) new now none)
         (leads-new b t u (IsLawful-concat b t new now lawful within none asked))
     by_refusal (Some why) is =
-        let u : Upload = final_upload (parts_found (tenant_book b t) now new.parts) new in
+        let u : Upload = joined_upload b.settings.numbers (tenant_book b t) new now in
         followed-stays b t _ _ (ap (put_created u) (concat_answer-refused t b.settings.numbers (tenant_book b t) new now why is)) (part_after_concat-refused b.settings.numbers (tenant_book b t) new now why is)

@@ -7,7 +7,8 @@ use Rattle.upload_book.specs.Book.{StoredBook, IsBook, plain_of}
 use Rattle.upload_book.specs.Change.{book_after_change, gone_removed, head_change, put_appended, put_created}
 use Rattle.upload_book.specs.Charge.{charge_in, charge_with}
 use Rattle.upload_book.specs.Chunk.{Chunk}
-use Rattle.upload_book.specs.Concat.{final_upload, joined_len, parts_found, rows_of}
+use Rattle.upload_book.specs.Expiry.{finished_end}
+use Rattle.upload_book.specs.Concat.{joined_len, joined_upload, parts_found, rows_of}
 use Rattle.upload_book.specs.Create.{created_upload, new_kind}
 use Rattle.upload_book.specs.declared.board_line.Accounts.{Accounts}
 use Rattle.upload_book.specs.declared.board_line.HeadChange.{HeadChange}
@@ -150,23 +151,23 @@ module _ (b : StoredBook) (r : ReadyFinal) (kept : IsBook b) (ready : IsReadyFor
   final-accounts charge accounts is_charge tells =
       let n : Numbers = b.settings.numbers in
       let part : TenantBook = tenant_book (plain_of b) r.tenant in
-      let u : Upload = final_upload (parts_found (tenant_book (plain_of b) r.tenant) r.now r.new.parts) r.new in
+      let u : Upload = joined_upload b.settings.numbers (tenant_book (plain_of b) r.tenant) r.new r.now in
       tells (with_new part u) (charge-concat n part r.new r.now (sound-part b r.tenant kept ready.there) ∙ sym is_charge)
       ∙ ap (λ part. accounts_of (with_tenant_book (plain_of b) r.tenant part)) (sym (part_after_concat-none n part r.new r.now ready.accepted))
 
   -- and this changes of the heads
   pub final-head : (row : HeadRow)
-      → row ≡ record { kind = Final; offset = r.len; declared = Some r.len; metadata = r.new.metadata; concat = r.new.concat; expires = None }
+      → row ≡ record { kind = Final; offset = r.len; declared = Some r.len; metadata = r.new.metadata; concat = r.new.concat; expires = r.expires }
       → head_change (plain_of b) (change.Concat r.tenant r.new) r.now ≡ Some (Put (next_name b r.tenant) row)
   final-head row is_row =
       let n : Numbers = b.settings.numbers in
       let part : TenantBook = tenant_book (plain_of b) r.tenant in
-      let u : Upload = final_upload (parts_found (tenant_book (plain_of b) r.tenant) r.now r.new.parts) r.new in
-      let told : ℕ → ℕ → HeadRow = λ offset len. record { kind = Final; offset = offset; declared = Some len; metadata = r.new.metadata; concat = r.new.concat; expires = None } in
+      let u : Upload = joined_upload b.settings.numbers (tenant_book (plain_of b) r.tenant) r.new r.now in
+      let told : ℕ → ℕ → Option ℕ → HeadRow = λ offset len expires. record { kind = Final; offset = offset; declared = Some len; metadata = r.new.metadata; concat = r.new.concat; expires = expires } in
       let len : r.len ≡ joined_len (rows_of (parts_found (tenant_book (plain_of b) r.tenant) r.now r.new.parts)) =
       ready.len ∙ ap (λ part. joined_len (rows_of (parts_found part r.now r.new.parts))) (sym (part-plain b r.tenant)) in
-      let rows : row ≡ head_row_of (final_upload (parts_found (tenant_book (plain_of b) r.tenant) r.now r.new.parts) r.new) =
-      is_row ∙ ap₂ told (len ∙ sym (offset_of-final (parts_found (tenant_book (plain_of b) r.tenant) r.now r.new.parts) r.new)) len in
+      let rows : row ≡ head_row_of u =
+      is_row ∙ ap₂ (λ offset len. told offset len r.expires) (len ∙ sym (offset_of-final (parts_found part r.now r.new.parts) r.new (finished_end n r.now))) len ∙ ap (told (offset_of u) (joined_len (rows_of (parts_found part r.now r.new.parts)))) ready.expires in
       ap (put_created u) (concat_answer-none r.tenant n part r.new r.now ready.accepted) ∙ ap (λ (row : HeadRow). Some (Put (next_name b r.tenant) row)) (sym rows)
 
 -- the row of an upload after a PATCH

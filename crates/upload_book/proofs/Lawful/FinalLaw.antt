@@ -2,13 +2,13 @@
 use Rattle.std.proofs.Common.{◌≡◌, ◌≢◌, ◌⊎◌, ℕ, Bool, true, false, cond, eqb, not, List, [], ◌∷◌, get_or, Option, None, Some, Result, Ok, Err, refl, inl, inr, sym, ap, ap₂, subst, ◌∙◌}
 use Rattle.std.specs.List.{All, Contains}
 use Rattle.std.proofs.lemmas.Bool.Decides.{eqb_tells}
-use Rattle.std.proofs.lemmas.List.Elements.{All-head, All-tail, Contains-append_cases}
+use Rattle.std.proofs.lemmas.List.Elements.{All-head, All-tail, All-weaker, Contains-append_cases}
 use Rattle.std.proofs.Math.ListN.{get_or-map}
 use Rattle.upload_book.specs.Account.{account_in}
 use Rattle.upload_book.specs.Append.{append_refusal, part_after_append, upload_with}
 use Rattle.upload_book.specs.Change.{book_after_change}
 use Rattle.upload_book.specs.Chunk.{Chunk}
-use Rattle.upload_book.specs.Concat.{concat_refusal, final_upload, part_after_concat, parts_found}
+use Rattle.upload_book.specs.Concat.{concat_refusal, joined_upload, part_after_concat}
 use Rattle.upload_book.specs.Create.{created_upload, creation_refusal, new_kind, part_after_create}
 use Rattle.upload_book.specs.declared.change.Change.{Change}
 use Rattle.upload_book.specs.declared.change.Change.TheVariants.{Create, Append, Concat, Terminate, Sweep, Restore}
@@ -19,7 +19,7 @@ use Rattle.upload_book.specs.declared.settings.Numbers.{Numbers}
 use Rattle.upload_book.specs.declared.settings.TenantQuota.{TenantQuota}
 use Rattle.upload_book.specs.Events.{ChangeEvent, HasUpload, IsJoinedBy, StandsAs, book_after_all, book_after_event}
 use Rattle.upload_book.specs.Expiry.{has_expired}
-use Rattle.upload_book.specs.laws.FinalsStay.{FinalsStay, IsMadeIn, IsPutBackBy}
+use Rattle.upload_book.specs.laws.FinalsStay.{Spares, FinalsStay, IsMadeIn, IsPutBackBy}
 use Rattle.upload_book.specs.FirstChunk.{FirstChunk}
 use Rattle.upload_book.specs.NewFinal.{NewFinal}
 use Rattle.upload_book.specs.NewUpload.{NewUpload}
@@ -45,7 +45,7 @@ module _ (n : Numbers) (part : TenantBook) (id now charged : ℕ) (u : Upload) (
   stays-create new first (Some why) is = rw is there
 
   stays-concat : (new : NewFinal) (why : Option Refusal) → concat_refusal n part new now ≡ why → kept_in (part_after_concat new now n part).uploads id ≡ Some u
-  stays-concat new None is = rw is (kept-push part.uploads (record { id = part.next; kept = final_upload (parts_found part now new.parts) new } ∷ []) id u there)
+  stays-concat new None is = rw is (kept-push part.uploads (record { id = part.next; kept = joined_upload n part new now } ∷ []) id u there)
   stays-concat new (Some why) is = rw is there
 
   stays-append : (other : ℕ) (chunk : Chunk) (seen : Result Upload Refusal) → u.kind ≡ Final → visible_upload part other now ≡ seen → kept_in (part_after_append other chunk now charged n part).uploads id ≡ Some u
@@ -69,42 +69,46 @@ module _ (n : Numbers) (part : TenantBook) (id now charged : ℕ) (u : Upload) (
         | inr apart ↦ rw apart.0 refl
       ]))
 
-  stays-sweep : u.expires ≡ None → kept_in (part_after_sweep now part).uploads id ≡ Some u
+  stays-sweep : has_expired now u.expires ≡ false → kept_in (part_after_sweep now part).uploads id ≡ Some u
   stays-sweep never = kept-filter (λ e. not (has_expired now e.kept.expires)) part.uploads id u there (λ e named same. rw same (rw never refl))
 
-stays-event : (b : PlainBook) (change : Change) (now : ℕ) (name : Name) (u : Upload) → u.kind ≡ Final → u.expires ≡ None → StandsAs b name u → change ≢ Terminate name → StandsAs (book_after_change b change now) name u
-stays-event b (Create tenant new first) now name u final never there differs =
+stays-event : (b : PlainBook) (change : Change) (now : ℕ) (name : Name) (u : Upload) → u.kind ≡ Final → StandsAs b name u → Spares name u (record { change = change; now = now }) → StandsAs (book_after_change b change now) name u
+stays-event b (Create tenant new first) now name u final there spares =
     let n = b.settings.numbers in
     let part = tenant_book b tenant in
     stays-book b tenant _ name u there (λ same. stays-create n part name.id now b.charged u (moved b tenant name u there same) new first (creation_refusal n (account_in n part b.charged) part new first) refl)
-stays-event b (Append other chunk) now name u final never there differs =
+stays-event b (Append other chunk) now name u final there spares =
     let n = b.settings.numbers in
     let part = tenant_book b other.tenant in
     stays-book b other.tenant _ name u there (λ same. stays-append n part name.id now b.charged u (moved b other.tenant name u there same) other.id chunk (visible_upload part other.id now) final refl)
-stays-event b (Concat tenant new) now name u final never there differs =
+stays-event b (Concat tenant new) now name u final there spares =
     let n = b.settings.numbers in
     let part = tenant_book b tenant in
     stays-book b tenant _ name u there (λ same. stays-concat n part name.id now b.charged u (moved b tenant name u there same) new (concat_refusal n part new now) refl)
-stays-event b (Terminate other) now name u final never there differs =
+stays-event b (Terminate other) now name u final there spares =
     let n = b.settings.numbers in
     let part = tenant_book b other.tenant in
-    stays-book b other.tenant _ name u there (λ same. stays-terminate n part name.id now b.charged u (moved b other.tenant name u there same) other.id (visible_upload part other.id now) (λ id. differs (ap Terminate (let tenant : other.tenant ≡ name.tenant = sym same in let number : other.id ≡ name.id = sym id in one_name other name tenant number))) refl)
+    stays-book b other.tenant _ name u there (λ same. stays-terminate n part name.id now b.charged u (moved b other.tenant name u there same) other.id (visible_upload part other.id now) (λ id. spares.owner (ap Terminate (let tenant : other.tenant ≡ name.tenant = sym same in let number : other.id ≡ name.id = sym id in one_name other name tenant number))) refl)
   where
     name_of : ℕ → ℕ → Name
     name_of tenant id = record { tenant = tenant; id = id }
 
     one_name : (a b : Name) → a.tenant ≡ b.tenant → a.id ≡ b.id → a ≡ b
     one_name a b tenant id = ap₂ name_of tenant id
-stays-event b Sweep now name u final never there differs =
+stays-event b Sweep now name u final there spares =
     ap (λ (part : TenantBook). kept_in part.uploads name.id) (get_or-map (part_after_sweep now) b.tenants name.tenant (opening_part 0))
-    ∙ stays-sweep b.settings.numbers (tenant_book b name.tenant) name.id now b.charged u there never
-stays-event b (Restore restored) now name u final never there differs = pieces_leave.stays b restored name u there
+    ∙ stays-sweep b.settings.numbers (tenant_book b name.tenant) name.id now b.charged u there (spares.sweep refl)
+stays-event b (Restore restored) now name u final there spares = pieces_leave.stays b restored name u there
 
+lasts-all : (b : PlainBook) (events : List ChangeEvent) (name : Name) (u : Upload) → u.kind ≡ Final → StandsAs b name u → All (Spares name u) events → StandsAs (book_after_all b events) name u
+lasts-all b [] name u final there others = there
+lasts-all b (e ∷ events) name u final there others =
+    lasts-all (book_after_event b e) events name u final (stays-event b e.change e.now name u final there (All-head (Spares name u) e events others)) (All-tail (Spares name u) e events others)
+
+-- one that has no end is left by each sweep
 stays-all : (b : PlainBook) (events : List ChangeEvent) (name : Name) (u : Upload) → u.kind ≡ Final → u.expires ≡ None → StandsAs b name u → All (λ e. e.change ≢ Terminate name) events → StandsAs (book_after_all b events) name u
-stays-all b [] name u final never there others = there
-stays-all b (e ∷ events) name u final never there others =
-    let Q : ChangeEvent → Type 0 = λ e. e.change ≢ Terminate name in
-    stays-all (book_after_event b e) events name u final never (stays-event b e.change e.now name u final never there (All-head Q e events others)) (All-tail Q e events others)
+stays-all b events name u final never there others =
+    lasts-all b events name u final there (All-weaker (λ e. e.change ≢ Terminate name) (Spares name u) (λ e owner. record { owner = owner; sweep = λ sweep. rw never refl }) events others)
 
 -- What a final upload of a part after a change was before it: the same, or what the change joined.
 module _ (n : Numbers) (part : TenantBook) (id now charged : ℕ) (u : Upload) (final : u.kind ≡ Final) where
@@ -133,9 +137,9 @@ module _ (n : Numbers) (part : TenantBook) (id now charged : ℕ) (u : Upload) (
       new-kind false is = absurd cc
 
   comes-concat : (new : NewFinal) (why : Option Refusal) → concat_refusal n part new now ≡ why → Contains (part_after_concat new now n part).uploads e
-      → Contains part.uploads e ⊎ ((concat_refusal n part new now ≡ None) × (part.next ≡ id) × (final_upload (parts_found part now new.parts) new ≡ u))
+      → Contains part.uploads e ⊎ ((concat_refusal n part new now ≡ None) × (part.next ≡ id) × (joined_upload n part new now ≡ u))
   comes-concat new (Some why) is c = inl (rw is at c)
-  comes-concat new None is c = elim (comes-push (final_upload (parts_found part now new.parts) new) (rw is at c)) [
+  comes-concat new None is c = elim (comes-push (joined_upload n part new now) (rw is at c)) [
     | inl before ↦ inl before
     | inr made ↦ inr (is, made.0, made.1)
   ]
@@ -222,7 +226,7 @@ comes-event b (Concat tenant new) now name u final c = elim (comes-book b tenant
 ]
   where
     joined : (t : ℕ) → tenant ≡ t
-        → (concat_refusal b.settings.numbers (tenant_book b tenant) new now ≡ None) × ((tenant_book b tenant).next ≡ name.id) × (final_upload (parts_found (tenant_book b tenant) now new.parts) new ≡ u)
+        → (concat_refusal b.settings.numbers (tenant_book b tenant) new now ≡ None) × ((tenant_book b tenant).next ≡ name.id) × (joined_upload b.settings.numbers (tenant_book b tenant) new now ≡ u)
         → IsJoinedBy b (record { change = Concat tenant new; now = now }) (record { tenant = t; id = name.id }) u
     joined t same made = subst (λ t. IsJoinedBy b (record { change = Concat tenant new; now = now }) (record { tenant = t; id = name.id }) u) same (record {
       new = new;
@@ -259,6 +263,7 @@ opening-none s name u c =
 pub finals_stay : FinalsStay
 finals_stay = record {
   stays = stays-all;
+  lasts = lasts-all;
   since = comes-all;
   comes = λ s events name u final c. elim (comes-all (opening_book s) events name u final c) [
     | inl opening ↦ absurd (opening-none s name u opening)

@@ -1,9 +1,9 @@
 -- A PATCH leaves a lawful book lawful.
-use Rattle.std.proofs.Common.{◌≡◌, ℕ, ◌+◌, ◌<◌, ◌≤◌, ◌⊎◌, true, false, cond, not, eqb, ltb, List, [], ◌++◌, length, get_or, Option, Some, None, unwrap_or, is_some, IfSome, refl, inl, inr, sym, ap, ◌∙◌, arith}
+use Rattle.std.proofs.Common.{◌≡◌, ℕ, ◌+◌, ◌<◌, ◌≤◌, ◌⊎◌, ◌||◌, Bool, true, false, cond, not, eqb, ltb, List, [], ◌++◌, length, get_or, Option, Some, None, unwrap_or, is_some, IfSome, refl, inl, inr, sym, ap, ◌∙◌, arith}
 use Rattle.std.specs.List.{All}
 use Rattle.std.proofs.Math.ListN.{length-map, length-append}
 use Rattle.std.proofs.lemmas.Bool.Decides.{eqb_tells, nat_tests}
-use Rattle.std.proofs.lemmas.Bool.{false≢true}
+use Rattle.std.proofs.lemmas.Bool.{true≢false}
 use Rattle.std.proofs.lemmas.List.{append-nil, nil_from_length}
 use Rattle.std.proofs.lemmas.List.Elements.{All-map, All-nil, All-weaker}
 use Rattle.upload_book.specs.Account.{blocks_added, blocks_between}
@@ -14,7 +14,7 @@ use Rattle.upload_book.specs.declared.board_line.Account.{Account}
 use Rattle.upload_book.specs.declared.head_row.Kind.{Kind}
 use Rattle.upload_book.specs.declared.head_row.Kind.TheVariants.{Plain, Partial, Final}
 use Rattle.upload_book.specs.declared.settings.Numbers.{Numbers}
-use Rattle.upload_book.specs.Expiry.{lifetime_end, renewed}
+use Rattle.upload_book.specs.Expiry.{ends_finished, finished_end, later_by, may_end, may_end_finished, renewed}
 use Rattle.upload_book.specs.Lawful.{IsTenantOf, IsUploadOf, IsOfKind, IsWhole, IsGivenIn, IsSegmentOf}
 use Rattle.upload_book.specs.TenantBook.{Entry, TenantBook, kept_in, with_changed}
 use Rattle.upload_book.specs.Upload.{Upload, content_of, offset_of, is_reached, is_complete, IsComplete, head_row_of}
@@ -112,22 +112,43 @@ declared_tells (Some most) offset =
 pub complete_tells : (u : Upload) → ((is_complete u ≡ true) × IsComplete u) ⊎ ((is_complete u ≡ false) × (IsComplete u → ⊥))
 complete_tells u = declared_tells u.declared (offset_of u)
 
--- an upload that expires as its kind asks
-pub IsOfKind-renewed : (part : TenantBook) (kind : Kind) (u : Upload) (before : Option ℕ) (end : ℕ) → is_final kind ≡ false → IsWhole u → u.expires ≡ renewed kind (is_complete u) before end → IsOfKind part u kind
-IsOfKind-renewed part Plain u before end own whole is =
-    elim (complete_tells u) [
-      | inl complete ↦
-          let never : u.expires ≡ None = is ∙ rw complete.0 refl in
-          (whole, (λ expires _. false≢true (sym (ap (is_some {T = ℕ}) never) ∙ expires), λ open'. absurd (open' complete.1)))
-      | inr open' ↦ (whole, (λ _. open'.1, λ _. rw is (rw open'.0 refl)))
-    ]
-IsOfKind-renewed part Partial u before end own whole is = (whole, rw is refl)
-IsOfKind-renewed part Final u before end own whole is = absurd (cc)
+-- an upload that is complete already takes no more
+pub complete_later : (n : Numbers) (declared : Option ℕ) (start end : ℕ) → start ≤ end → is_too_long n (unwrap_or declared n.max_size) end ≡ false
+    → is_reached declared start ≡ true → is_reached declared end ≡ true
+complete_later n None start end le fits is = absurd (true≢false (sym is))
+complete_later n (Some most) start end le fits is = grind (arith, nat_tests)
+
+-- a length that is told leaves it complete
+pub complete_known : (known told : Option ℕ) (end : ℕ) → is_reached known end ≡ true → is_reached (or_else known told) end ≡ true
+complete_known None told end is = absurd (true≢false (sym is))
+complete_known (Some most) told end is = is
+
+-- a finished upload may have the end that it gets
+pub may-finished : (n : Numbers) (now : ℕ) → may_end_finished n (finished_end n now) ≡ true
+may-finished n now = may-if (ends_finished n) (later_by now n.finished_lifetime) where
+  may-if : (ends : Bool) (end : ℕ) → (ends || not (is_some (cond ends (Some end) None))) ≡ true
+  may-if true end = refl
+  may-if false end = refl
+
+-- an upload that is touched may have its end, if it could before
+pub ends-renewed : (n : Numbers) (kind : Kind) (was complete : Bool) (before : Option ℕ) (now : ℕ) → is_final kind ≡ false → (was ≡ true → complete ≡ true) → (was ≡ true → may_end n kind true before ≡ true)
+    → may_end n kind complete (renewed n kind was complete before now) ≡ true
+ends-renewed n Plain true complete before now own stays had = ap (λ complete. may_end n Plain complete before) (stays refl) ∙ had refl
+ends-renewed n Plain false true before now own stays had = may-finished n now
+ends-renewed n Plain false false before now own stays had = refl
+ends-renewed n Partial was complete before now own stays had = refl
+ends-renewed n Final was complete before now own stays had = absurd (cc)
+
+-- an upload that is not a final one is as its kind asks where it is whole
+pub IsOfKind-whole : (part : TenantBook) (kind : Kind) (u : Upload) → is_final kind ≡ false → IsWhole u → IsOfKind part u kind
+IsOfKind-whole part Plain u own whole = whole
+IsOfKind-whole part Partial u own whole = whole
+IsOfKind-whole part Final u own whole = absurd (cc)
 
 -- an upload that is not a final one is whole
 pub IsWhole-from_kind : (part : TenantBook) (kind : Kind) (u : Upload) → is_final kind ≡ false → IsOfKind part u kind → IsWhole u
-IsWhole-from_kind part Plain u own sound = sound.0
-IsWhole-from_kind part Partial u own sound = sound.0
+IsWhole-from_kind part Plain u own sound = sound
+IsWhole-from_kind part Partial u own sound = sound
 IsWhole-from_kind part Final u own sound = absurd (cc)
 
 -- an upload is as it should be after a PATCH
@@ -137,11 +158,16 @@ IsUploadOf-append n account part later u chunk now can sound =
     let within = ends_within n (or_else u.declared chunk.length) (offset_of u + length chunk.bytes) can.fits in
     let end = offset_of-append n u chunk now in
     let whole = IsWhole-from_kind part u.kind u can.own sound.kind in
-    let expires : after.expires ≡ renewed u.kind (is_complete after) u.expires (lifetime_end n now) = ap (λ offset. renewed u.kind (is_reached (or_else u.declared chunk.length) offset) u.expires (lifetime_end n now)) (sym end) in
+    let declared = or_else u.declared chunk.length in
+    let ends : may_end n u.kind (is_reached declared (offset_of u + length chunk.bytes)) after.expires ≡ true =
+    ends-renewed n u.kind (is_complete u) (is_reached declared (offset_of u + length chunk.bytes)) u.expires now can.own
+    (λ was. complete_later n declared (offset_of u) (offset_of u + length chunk.bytes) (omega arith) can.fits (complete_known u.declared chunk.length (offset_of u) was))
+    (λ was. ap (λ complete. may_end n u.kind complete u.expires) (sym was) ∙ sound.ends) in
     record {
       within = rw end within.0;
       size = rw end within.1;
-      kind = IsOfKind-renewed later u.kind after u.expires (lifetime_end n now) can.own (record { segment = refl; parts = whole.parts }) expires;
+      kind = IsOfKind-whole later u.kind after can.own (record { segment = refl; parts = whole.parts });
+      ends = ap (λ offset. may_end n u.kind (is_reached declared offset) after.expires) end ∙ ends;
       metadata = sound.metadata;
       concat = sound.concat;
     }

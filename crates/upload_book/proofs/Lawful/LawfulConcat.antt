@@ -9,7 +9,8 @@ use Rattle.std.proofs.lemmas.List.Sums.{sum_by-cons}
 use Rattle.block_bodies.specs.Bodies.{blocks_for}
 use Rattle.upload_book.specs.Append.{is_final}
 use Rattle.upload_book.specs.Charge.{Source, price, sources_of, charge_in}
-use Rattle.upload_book.specs.Concat.{is_partial, partial_seen, part_named, parts_found, rows_of, are_complete, joined_len, are_there, concat_refusal, final_upload}
+use Rattle.upload_book.specs.Expiry.{finished_end}
+use Rattle.upload_book.specs.Concat.{are_complete, are_there, concat_refusal, final_upload, is_partial, joined_len, joined_upload, part_named, partial_seen, parts_found, rows_of}
 use Rattle.upload_book.specs.declared.head_row.HeadRow.{HeadRow}
 use Rattle.upload_book.specs.declared.head_row.Kind.{Kind}
 use Rattle.upload_book.specs.declared.head_row.Kind.TheVariants.{Plain, Partial, Final}
@@ -23,7 +24,7 @@ use Rattle.upload_book.proofs.Charge.ChargeLemmas.{sources-given}
 use Rattle.upload_book.proofs.Charge.InUse.{Contains-mapped}
 use Rattle.upload_book.proofs.Lawful.Entries.{kept_in-All, kept_in-contains, kept_in-push, visible_in-fresh, visible_in-Ok}
 use Rattle.upload_book.proofs.Lawful.FirstRefusal.{test-passed}
-use Rattle.upload_book.proofs.Lawful.LawfulAppend.{IsWhole-from_kind, complete_tells}
+use Rattle.upload_book.proofs.Lawful.LawfulAppend.{IsWhole-from_kind, complete_tells, may-finished}
 use Rattle.upload_book.proofs.Lawful.LawfulSteps.{HasSharedParts, IsTenantOf-with_new}
 use Rattle.upload_book.proofs.Lawful.SharedLemmas.{joined-stand}
 use Rattle.upload_book.proofs.Charge.PriceLemmas.{charge-stays, price-entry, sources-own}
@@ -124,13 +125,13 @@ pub record HasLawfulParts (new : NewFinal) : Type 0 where
   pub concat : IsConcatText Final new.concat
 
 -- a final upload has as many bytes as its parts together
-pub offset_of-final : (found : List (Entry Upload)) (new : NewFinal) → offset_of (final_upload found new) ≡ joined_len (rows_of found)
-offset_of-final [] new = refl
-offset_of-final (e ∷ found) new =
+pub offset_of-final : (found : List (Entry Upload)) (new : NewFinal) (expires : Option ℕ) → offset_of (final_upload found new expires) ≡ joined_len (rows_of found)
+offset_of-final [] new expires = refl
+offset_of-final (e ∷ found) new expires =
     omega (
       arith,
-      length-append (content_of e.kept) (content_of (final_upload found new)),
-      offset_of-final found new,
+      length-append (content_of e.kept) (content_of (final_upload found new expires)),
+      offset_of-final found new expires,
       sum_by-cons (λ (row : HeadRow). row.offset) (head_row_of e.kept) (rows_of found),
     )
 
@@ -145,10 +146,10 @@ IsSegmentOf-found part u e found complete =
     rw (kept_in-push part.uploads (record { id = part.next; kept = u }) e.id (omega (arith, found.given.1)), found.there) (found.partial, complete, refl)
 
 -- a new final upload has the parts that were found
-HasParts-final : (part : TenantBook) (found : List (Entry Upload)) (new : NewFinal) → 0 < length found → length found ≤ 32 → All (IsFound part) found → All (λ e. IsComplete e.kept) found
-    → HasParts (with_new part (final_upload found new)) (final_upload found new)
-HasParts-final part found new some few each complete =
-    let u : Upload = final_upload found new in
+HasParts-final : (part : TenantBook) (found : List (Entry Upload)) (new : NewFinal) (expires : Option ℕ) → 0 < length found → length found ≤ 32 → All (IsFound part) found → All (λ e. IsComplete e.kept) found
+    → HasParts (with_new part (final_upload found new expires)) (final_upload found new expires)
+HasParts-final part found new expires some few each complete =
+    let u : Upload = final_upload found new expires in
     let later : TenantBook = with_new part u in
     let id : Entry Upload → ℕ = λ (e : Entry Upload). e.id in
     let content : Entry Upload → List ℕ = λ (e : Entry Upload). content_of e.kept in
@@ -162,14 +163,16 @@ HasParts-final part found new some few each complete =
     }
 
 -- it is as it should be
-IsUploadOf-final : (n : Numbers) (part : TenantBook) (new : NewFinal) (now : ℕ) → IsJoinable n part new now → HasLawfulParts new → let u = final_upload (parts_found part now new.parts) new in IsUploadOf n (with_new part u) u
+IsUploadOf-final : (n : Numbers) (part : TenantBook) (new : NewFinal) (now : ℕ) → IsJoinable n part new now → HasLawfulParts new → let u = joined_upload n part new now in IsUploadOf n (with_new part u) u
 IsUploadOf-final n part new now can asked =
     let found : List (Entry Upload) = parts_found part now new.parts in
-    let len : offset_of (final_upload found new) ≡ joined_len (rows_of found) = offset_of-final found new in
+    let end : Option ℕ = finished_end n now in
+    let len : offset_of (final_upload found new end) ≡ joined_len (rows_of found) = offset_of-final found new end in
     record {
       within = (omega (arith, len), can.small);
       size = omega (arith, len, can.small);
-      kind = (HasParts-final part found new (omega (arith, can.there, asked.some)) (omega (arith, can.there, asked.few)) can.found can.complete, ap Some (sym len), refl);
+      kind = (HasParts-final part found new end (omega (arith, can.there, asked.some)) (omega (arith, can.there, asked.few)) can.found can.complete, ap Some (sym len));
+      ends = may-finished n now;
       metadata = asked.metadata;
       concat = asked.concat;
     }
@@ -189,8 +192,8 @@ found-segments part found a each there =
     (e.0.kept, ap (kept_in part.uploads) (sym id) ∙ is.there, content)
 
 -- the parts of a new final upload are earlier, and others that have them have the same bytes of them
-HasSharedParts-final : (n : Numbers) (part : TenantBook) (found : List (Entry Upload)) (new : NewFinal) → All (IsFound part) found → IsTenantOf n part → HasSharedParts part part.next (final_upload found new)
-HasSharedParts-final n part found new each sound = record {
+HasSharedParts-final : (n : Numbers) (part : TenantBook) (found : List (Entry Upload)) (new : NewFinal) (expires : Option ℕ) → All (IsFound part) found → IsTenantOf n part → HasSharedParts part part.next (final_upload found new expires)
+HasSharedParts-final n part found new expires each sound = record {
   earlier = All-map (λ p. p < part.next) (λ (e : Entry Upload). e.id) found (λ k d within. (each k d within).given.1);
   same = λ a b in_a in_b same.
       let own = found-segments part found a each (subst (λ l. Contains l a) (zip-maps (λ (e : Entry Upload). e.id) (λ (e : Entry Upload). content_of e.kept) found) in_a) in
@@ -208,19 +211,19 @@ HasSharedParts-final n part found new each sound = record {
 }
 
 -- a concatenation that is not refused leaves the tenant's part as it should be
-pub IsTenantOf-concat : (n : Numbers) (part : TenantBook) (new : NewFinal) (now : ℕ) → concat_refusal n part new now ≡ None → HasLawfulParts new → IsTenantOf n part → IsTenantOf n (with_new part (final_upload (parts_found part now new.parts) new))
+pub IsTenantOf-concat : (n : Numbers) (part : TenantBook) (new : NewFinal) (now : ℕ) → concat_refusal n part new now ≡ None → HasLawfulParts new → IsTenantOf n part → IsTenantOf n (with_new part (joined_upload n part new now))
 IsTenantOf-concat n part new now none asked sound =
     let can = IsJoinable-from_none n part new now none in
-    IsTenantOf-with_new n part (final_upload (parts_found part now new.parts) new) can.room can.unspent (IsUploadOf-final n part new now can asked) (HasSharedParts-final n part (parts_found part now new.parts) new can.found sound) sound
+    IsTenantOf-with_new n part (joined_upload n part new now) can.room can.unspent (IsUploadOf-final n part new now can asked) (HasSharedParts-final n part (parts_found part now new.parts) new (finished_end n now) can.found sound) sound
 
 -- the segment of an upload that is not final
 abbrev own_source : Entry Upload → Source
 own_source e = record { origin = e.id; len = offset_of e.kept }
 
 -- the segments of a final upload are those of its parts
-sources-final : (id : ℕ) (found : List (Entry Upload)) (new : NewFinal) → sources_of (record { id = id; kept = final_upload found new }) ≡ map {A = Entry Upload} {B = Source} own_source found
-sources-final id [] new = refl
-sources-final id (e ∷ found) new = ap (λ rest. own_source e ∷ rest) (sources-final id found new)
+sources-final : (id : ℕ) (found : List (Entry Upload)) (new : NewFinal) (expires : Option ℕ) → sources_of (record { id = id; kept = final_upload found new expires }) ≡ map {A = Entry Upload} {B = Source} own_source found
+sources-final id [] new expires = refl
+sources-final id (e ∷ found) new expires = ap (λ rest. own_source e ∷ rest) (sources-final id found new expires)
 
 -- segments of which none costs more than its origin cost no more
 price-within : (size : ℕ) (ys xs : List Source) (origin : ℕ) → All (λ s. blocks_for size s.len ≤ price size xs s.origin) ys → price size ys origin ≤ price size xs origin
@@ -249,22 +252,22 @@ found-paid n part e sound found =
     omega (arith, paid, price-entry n.block_size part.uploads place.0 e e.id place.1)
 
 -- a final upload of parts that were found costs its tenant nothing
-pub charge-final : (n : Numbers) (part : TenantBook) (found : List (Entry Upload)) (new : NewFinal) → IsTenantOf n part → All (IsFound part) found → charge_in n (with_new part (final_upload found new)) ≡ charge_in n part
-charge-final n part found new sound each =
+pub charge-final : (n : Numbers) (part : TenantBook) (found : List (Entry Upload)) (new : NewFinal) (expires : Option ℕ) → IsTenantOf n part → All (IsFound part) found → charge_in n (with_new part (final_upload found new expires)) ≡ charge_in n part
+charge-final n part found new expires sound each =
     charge-stays n.block_size part.next part.uploads e (sources-given n part sound) same
   where
     e : Entry Upload
-    e = record { id = part.next; kept = final_upload found new }
+    e = record { id = part.next; kept = final_upload found new expires }
 
     paid : All (λ s. blocks_for n.block_size s.len ≤ price n.block_size (flat_map sources_of part.uploads) s.origin) (sources_of e)
     paid =
         let P : Source → Type 0 = λ (s : Source). blocks_for n.block_size s.len ≤ price n.block_size (flat_map sources_of part.uploads) s.origin in
-        subst (λ l. All P l) (sym (sources-final part.next found new)) (All-map P own_source found (λ k d within. found-paid n part (get_or found k d) sound (each k d within)))
+        subst (λ l. All P l) (sym (sources-final part.next found new expires)) (All-map P own_source found (λ k d within. found-paid n part (get_or found k d) sound (each k d within)))
 
     same : (origin : ℕ) → price n.block_size (sources_of e) origin ≤ price n.block_size (flat_map sources_of part.uploads) origin
     same origin = price-within n.block_size (sources_of e) (flat_map sources_of part.uploads) origin paid
 
 -- nor does a concatenation
-pub charge-concat : (n : Numbers) (part : TenantBook) (new : NewFinal) (now : ℕ) → IsTenantOf n part → charge_in n (with_new part (final_upload (parts_found part now new.parts) new)) ≡ charge_in n part
+pub charge-concat : (n : Numbers) (part : TenantBook) (new : NewFinal) (now : ℕ) → IsTenantOf n part → charge_in n (with_new part (joined_upload n part new now)) ≡ charge_in n part
 charge-concat n part new now sound =
-    charge-final n part (parts_found part now new.parts) new sound (IsFound-parts part now new.parts)
+    charge-final n part (parts_found part now new.parts) new (finished_end n now) sound (IsFound-parts part now new.parts)

@@ -1,5 +1,5 @@
 -- A creation leaves a tenant's part as it should be.
-use Rattle.std.proofs.Common.{◌≡◌, ℕ, ◌+◌, ◌<◌, ◌≤◌, Bool, true, false, not, ltb, leb, List, length, None, unwrap_or, IsTrue, refl, sym, ap, arith}
+use Rattle.std.proofs.Common.{◌≡◌, ℕ, ◌+◌, ◌<◌, ◌≤◌, Bool, true, false, not, ltb, leb, List, length, None, true≢false, unwrap_or, IsTrue, refl, sym, ap, ◌∙◌, arith}
 use Rattle.std.specs.Prelude.{◌||◌}
 use Rattle.std.proofs.lemmas.Bool.Decides.{nat_tests}
 use Rattle.std.proofs.lemmas.List.{append-nil}
@@ -9,7 +9,7 @@ use Rattle.upload_book.specs.Checksum.{is_mismatch, is_of_other_algorithm}
 use Rattle.upload_book.specs.Create.{creation_refusal, created_upload, new_kind}
 use Rattle.upload_book.specs.declared.board_line.Account.{Account}
 use Rattle.upload_book.specs.declared.settings.Numbers.{Numbers}
-use Rattle.upload_book.specs.Expiry.{lifetime_end, renewed}
+use Rattle.upload_book.specs.Expiry.{may_end}
 use Rattle.upload_book.specs.FirstChunk.{FirstChunk, count_all_first}
 use Rattle.upload_book.specs.Lawful.{IsTenantOf, IsUploadOf, IsConcatText, is_kept_metadata}
 use Rattle.upload_book.specs.NewUpload.{NewUpload}
@@ -17,7 +17,7 @@ use Rattle.upload_book.specs.TenantBook.{TenantBook, with_new}
 use Rattle.upload_book.specs.Upload.{Upload, offset_of, is_complete, is_reached}
 use Rattle.upload_book.proofs.Charge.ChargeLemmas.{new-own}
 use Rattle.upload_book.proofs.Lawful.FirstRefusal.{test-passed}
-use Rattle.upload_book.proofs.Lawful.LawfulAppend.{ends_within, fewer_blocks, fewer_fit, IsOfKind-renewed, not_above}
+use Rattle.upload_book.proofs.Lawful.LawfulAppend.{ends-renewed, ends_within, fewer_blocks, fewer_fit, IsOfKind-whole, not_above}
 use Rattle.upload_book.proofs.Lawful.LawfulSteps.{HasSharedParts-none, IsTenantOf-with_new}
 
 -- what is known of a creation that is not refused
@@ -89,12 +89,13 @@ IsUploadOf-create n part new bytes now fits texts =
     let u : Upload = created_upload n new bytes now in
     let end : offset_of u ≡ length bytes = ap (length {A = ℕ}) (append-nil bytes) in
     let within = ends_within n new.length (length bytes) fits in
-    let expires : u.expires ≡ renewed (new_kind new.partial) (is_complete u) None (lifetime_end n now) =
-    ap (λ offset. renewed (new_kind new.partial) (is_reached new.length offset) None (lifetime_end n now)) (sym end) in
+    let ends : may_end n (new_kind new.partial) (is_reached new.length (length bytes)) u.expires ≡ true =
+    ends-renewed n (new_kind new.partial) false (is_reached new.length (length bytes)) None now (new-own new.partial) (λ was. absurd (true≢false (sym was))) (λ was. absurd (true≢false (sym was))) in
     record {
       within = rw end within.0;
       size = rw end within.1;
-      kind = IsOfKind-renewed part (new_kind new.partial) u None (lifetime_end n now) (new-own new.partial) (record { segment = refl; parts = refl }) expires;
+      kind = IsOfKind-whole part (new_kind new.partial) u (new-own new.partial) (record { segment = refl; parts = refl });
+      ends = ap (λ offset. may_end n (new_kind new.partial) (is_reached new.length offset) u.expires) end ∙ ends;
       metadata = texts.metadata;
       concat = texts.concat;
     }

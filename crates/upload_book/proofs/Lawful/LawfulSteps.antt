@@ -127,7 +127,6 @@ IsOfKind-beside part later u given same Final sound =
             subst P (sym pair) (same (get_or u.parts k d.0) (get_or u.segments k d.1) (parts.given k d.0 in_parts) (subst Q pair (parts.same k d within)));
       },
       sound.1,
-      sound.2,
     )
 
 -- what is lawful of an upload beside the uploads of a part is so beside those of another, where the
@@ -137,6 +136,7 @@ IsUploadOf-beside n part later u given same sound = record {
   within = sound.within;
   size = sound.size;
   kind = IsOfKind-beside part later u given same u.kind sound.kind;
+  ends = sound.ends;
   metadata = sound.metadata;
   concat = sound.concat;
 }

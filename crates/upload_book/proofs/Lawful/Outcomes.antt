@@ -1,7 +1,8 @@
 -- What a creation, a concatenation and a DELETE give, by whether they are refused.
 use Rattle.std.proofs.Common.{◌≡◌, ℕ, Option, Some, None, Ok, Err, refl}
 use Rattle.upload_book.specs.Account.{account_in}
-use Rattle.upload_book.specs.Concat.{concat_answer, concat_refusal, final_upload, part_after_concat, parts_found}
+use Rattle.upload_book.specs.Expiry.{finished_end}
+use Rattle.upload_book.specs.Concat.{concat_answer, concat_refusal, joined_upload, part_after_concat}
 use Rattle.upload_book.specs.Create.{creation_refusal, created_upload, create_answer, part_after_create}
 use Rattle.upload_book.specs.declared.refusal.Refusal.{Refusal}
 use Rattle.upload_book.specs.declared.settings.Numbers.{Numbers}
@@ -41,11 +42,11 @@ pub concat_answer-refused : (t : ℕ) (n : Numbers) (part : TenantBook) (new : N
 concat_answer-refused t n part new now why is = rw is refl
 
 -- one that is not refused
-pub concat_answer-none : (t : ℕ) (n : Numbers) (part : TenantBook) (new : NewFinal) (now : ℕ) → concat_refusal n part new now ≡ None → concat_answer t new now n part ≡ Ok (record { name = record { tenant = t; id = part.next }; expires = None })
+pub concat_answer-none : (t : ℕ) (n : Numbers) (part : TenantBook) (new : NewFinal) (now : ℕ) → concat_refusal n part new now ≡ None → concat_answer t new now n part ≡ Ok (record { name = record { tenant = t; id = part.next }; expires = finished_end n now })
 concat_answer-none t n part new now none = rw none refl
 
 -- adds the final upload
-pub part_after_concat-none : (n : Numbers) (part : TenantBook) (new : NewFinal) (now : ℕ) → concat_refusal n part new now ≡ None → part_after_concat new now n part ≡ with_new part (final_upload (parts_found part now new.parts) new)
+pub part_after_concat-none : (n : Numbers) (part : TenantBook) (new : NewFinal) (now : ℕ) → concat_refusal n part new now ≡ None → part_after_concat new now n part ≡ with_new part (joined_upload n part new now)
 part_after_concat-none n part new now none = rw none refl
 
 -- a DELETE of what is not visible is refused

@@ -33,9 +33,9 @@ sound-within Narrow s h =
       wider s.numbers.blocks 1048576 4294967295 (omega arith) holds.0,
       wider s.numbers.block_size 65536 1048576 (omega arith) holds.1.0,
       larger (s.numbers.blocks * s.numbers.block_size) 1073741824 17592186044416 (omega arith) holds.1.1.0,
-      wider s.numbers.max_size 16777216 1099511627776 (omega arith) holds.1.1.1.1.0,
-      wider s.numbers.uploads 64 65536 (omega arith) holds.1.1.1.1.1.0,
-    ) (rw (holds.0, holds.1.0, holds.1.1.0, holds.1.1.1.1.0, holds.1.1.1.1.1.0) at h)
+      wider s.numbers.max_size 16777216 1099511627776 (omega arith) holds.1.1.1.1.1.0,
+      wider s.numbers.uploads 64 65536 (omega arith) holds.1.1.1.1.1.1.0,
+    ) (rw (holds.0, holds.1.0, holds.1.1.0, holds.1.1.1.1.1.0, holds.1.1.1.1.1.1.0) at h)
   where
     wider : (n most more : ℕ) → most ≤ more → is_outside n most ≡ false → is_outside n more ≡ false
     wider n most more less test = grind (arith, nat_tests)
@@ -48,21 +48,21 @@ pub last_id-within : (s : Settings) → AreSound s → s.numbers.last_id ≤ 184
 last_id-within s h =
     let tests = number_tests Wide s.numbers ++ tenant_tests s.numbers.blocks s.tenants in
     let holds : NoneHolds tests = none_holds tests h in
-    within s.numbers.last_id 18446744073709551614 holds.1.1.1.1.1.1.0
+    within s.numbers.last_id 18446744073709551614 holds.1.1.1.1.1.1.1.0
 
 -- the greatest size is within its range
 pub max_size-within : (s : Settings) → AreSound s → s.numbers.max_size ≤ 1099511627776
 max_size-within s h =
     let tests = number_tests Wide s.numbers ++ tenant_tests s.numbers.blocks s.tenants in
     let holds : NoneHolds tests = none_holds tests h in
-    within s.numbers.max_size 1099511627776 holds.1.1.1.1.0
+    within s.numbers.max_size 1099511627776 holds.1.1.1.1.1.0
 
 -- the quotas are within the blocks
 pub quotas-within : (s : Settings) → AreSound s → sum_by (λ t. t.quota) s.tenants ≤ s.numbers.blocks
 quotas-within s h =
     let tests = number_tests Wide s.numbers ++ tenant_tests s.numbers.blocks s.tenants in
     let holds : NoneHolds tests = none_holds tests h in
-    at_most s.numbers.blocks (sum_by (λ t. t.quota) s.tenants) holds.1.1.1.1.1.1.1.1.1.1.0
+    at_most s.numbers.blocks (sum_by (λ t. t.quota) s.tenants) holds.1.1.1.1.1.1.1.1.1.1.1.0
   where
     at_most : (most k : ℕ) → ltb most k ≡ false → k ≤ most
     at_most most k test = grind (arith, nat_tests)
@@ -89,11 +89,11 @@ pub uploads-within : (s : Settings) → AreSound s → s.numbers.uploads ≤ 655
 uploads-within s h =
     let tests = number_tests Wide s.numbers ++ tenant_tests s.numbers.blocks s.tenants in
     let holds : NoneHolds tests = none_holds tests h in
-    within s.numbers.uploads 65536 holds.1.1.1.1.1.0
+    within s.numbers.uploads 65536 holds.1.1.1.1.1.1.0
 
 -- there are few tenants
 pub tenants-within : (s : Settings) → AreSound s → length s.tenants ≤ 16
 tenants-within s h =
     let tests = number_tests Wide s.numbers ++ tenant_tests s.numbers.blocks s.tenants in
     let holds : NoneHolds tests = none_holds tests h in
-    within (length s.tenants) 16 holds.1.1.1.1.1.1.1.0
+    within (length s.tenants) 16 holds.1.1.1.1.1.1.1.1.0

@@ -74,8 +74,8 @@ ShareParts-with_kept entries id u none own shared a b in_a in_b same =
     shared a b (subst (λ l. Contains l a) is in_a) (subst (λ l. Contains l b) is in_b) same
 
 segments-kind : (part : TenantBook) (u : Upload) (kind : Kind) → IsOfKind part u kind → All (λ (s : Segment). IsSegmentOf part s.0 s.1) (zip u.parts u.segments)
-segments-kind part u Plain sound = rw sound.0.parts (All-nil (λ (s : Segment). IsSegmentOf part s.0 s.1))
-segments-kind part u Partial sound = rw sound.0.parts (All-nil (λ (s : Segment). IsSegmentOf part s.0 s.1))
+segments-kind part u Plain sound = rw sound.parts (All-nil (λ (s : Segment). IsSegmentOf part s.0 s.1))
+segments-kind part u Partial sound = rw sound.parts (All-nil (λ (s : Segment). IsSegmentOf part s.0 s.1))
 segments-kind part u Final sound = sound.0.same
 
 -- each segment of a final upload is that of its part, where that stands

@@ -1,7 +1,7 @@
 -- A final upload that is put back, in the plain book: what it costs, and why it is refused.
 use Rattle.std.proofs.Common.{◌≡◌, ℕ, ◌+◌, ◌-◌, ◌<◌, ◌≤◌, max, Bool, true, false, ◌&&◌, ◌||◌, cond, eqb, ltb, not, List, [], ◌∷◌, ◌++◌, map, length, Option, Some, None, is_some, unwrap_or, refl, inl, inr, sym, ap, ap₂, subst, ◌∙◌, arith, append_assoc, append-nil}
 use Rattle.std.specs.List.{All, flat_map, list_all}
-use Rattle.std.proofs.lemmas.Bool.{and_parts, eqb-true}
+use Rattle.std.proofs.lemmas.Bool.{eqb-true}
 use Rattle.std.proofs.lemmas.Bool.Decides.{eqb_tells, nat_tests}
 use Rattle.std.proofs.lemmas.List.{map-append}
 use Rattle.std.proofs.lemmas.List.Concat.{flat_map-append}
@@ -27,7 +27,7 @@ use Rattle.upload_book.specs.TenantBook.{Entry, TenantBook}
 use Rattle.upload_book.specs.Upload.{Upload, is_complete, is_reached, offset_of}
 use Rattle.upload_book.proofs.Charge.PriceLemmas.{price-append, sum_of_one}
 use Rattle.upload_book.proofs.Charge.SumsBelow.{sum_below-add, sum_below-same}
-use Rattle.upload_book.proofs.Restoring.LawfulBack.{charge-next, sent-first, zip-sent}
+use Rattle.upload_book.proofs.Restoring.LawfulBack.{final-complete, charge-next, sent-first, zip-sent}
 
 -- ---- what segments cost
 
@@ -194,8 +194,8 @@ module _ (n : Numbers) (charged : ℕ) (part : TenantBook) (r : RestoredUpload) 
       → first_that_holds (final_tests n part r (left_with (limits_of n (account_in n part charged) r.declared) (sent_len sent) added)) ≡ first_that_holds (restore_tests n charged part r.id u)
   tests-final paid unspent =
       let after : ℕ = charge_in n (with_back part r.id u) in
-      let ends : ends_rightly r.kind (is_reached (left_of r.declared (sent_len sent)) 0) r.expires ≡ ends_rightly r.kind (is_complete u) r.expires =
-      ap (λ (whole : Bool). ends_rightly r.kind whole r.expires) (reached-left r.declared (sent_len sent) ∙ ap (is_reached r.declared) (sym offset-back)) in
+      let ends : ends_rightly n r.kind (is_reached (left_of r.declared (sent_len sent)) 0) r.expires ≡ ends_rightly n r.kind (is_complete u) r.expires =
+      ap (λ (whole : Bool). ends_rightly n r.kind whole r.expires) (reached-left r.declared (sent_len sent) ∙ ap (is_reached r.declared) (sym offset-back)) in
       let may : list_all (λ (s : RestoredSegment). may_be_part part s.origin) r.segments ≡ list_all (may_be_part part) u.parts =
       sym (ap (list_all (may_be_part part)) parts-origins ∙ all-mapped (λ (s : RestoredSegment). s.origin) (may_be_part part) r.segments) in
       let total : ltb (n.last_total - charged) added ≡ ltb n.last_total (charged + (after - charge_in n part)) = over_total _ _ _ _ _ unspent charge-final in
@@ -208,8 +208,8 @@ module _ (n : Numbers) (charged : ℕ) (part : TenantBook) (r : RestoredUpload) 
       over_quota : (quota before after added : ℕ) → before ≤ quota → after ≡ before + added → ltb (quota - before) added ≡ ltb quota after
       over_quota quota before after added less is = grind (arith, nat_tests)
 
-      complete-final : ends_rightly r.kind (is_complete u) r.expires ≡ true → is_reached r.declared (offset_of u) ≡ true
-      complete-final ends = (and_parts (is_complete u) (not (is_some r.expires)) (subst (λ (kind : Kind). ends_rightly kind (is_complete u) r.expires ≡ true) final ends)).0
+      complete-final : ends_rightly n r.kind (is_complete u) r.expires ≡ true → is_reached r.declared (offset_of u) ≡ true
+      complete-final ends = final-complete n (is_complete u) r.expires (subst (λ (kind : Kind). ends_rightly n kind (is_complete u) r.expires ≡ true) final ends)
 
-      longer : ends_rightly r.kind (is_complete u) r.expires ≡ true → ltb n.max_size (unwrap_or r.declared n.max_size) ≡ is_too_long n (unwrap_or r.declared n.max_size) (offset_of u)
+      longer : ends_rightly n r.kind (is_complete u) r.expires ≡ true → ltb n.max_size (unwrap_or r.declared n.max_size) ≡ is_too_long n (unwrap_or r.declared n.max_size) (offset_of u)
       longer ends = whole-length r.declared (offset_of u) (complete-final ends)

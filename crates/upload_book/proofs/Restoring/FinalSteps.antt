@@ -1,8 +1,7 @@
 -- What a book over a store keeps where a final upload is put back.
-use Rattle.std.proofs.Common.{◌≡◌, ℕ, ◌+◌, ◌-◌, ◌<◌, ◌≤◌, true, not, List, length, get_or, set, Option, None, Some, is_some, unwrap_or, refl, sym, ap, subst, ◌∙◌, arith}
+use Rattle.std.proofs.Common.{◌≡◌, ℕ, ◌+◌, ◌-◌, ◌<◌, ◌≤◌, true, List, length, get_or, set, Option, None, Some, unwrap_or, refl, sym, ap, subst, ◌∙◌, arith}
 use Rattle.std.specs.List.{sum_by}
 use Rattle.std.proofs.Math.ListN.{length-map}
-use Rattle.std.proofs.lemmas.Bool.{and_parts}
 use Rattle.block_pool.specs.Blocks.{size_of}
 use Rattle.block_bodies.specs.Changes.{SameSizes}
 use Rattle.upload_book.specs.Book.{StoredBook, IsBook, plain_of}
@@ -10,6 +9,7 @@ use Rattle.upload_book.specs.Charge.{charge_in, charge_with}
 use Rattle.upload_book.specs.declared.head_row.Kind.{Kind}
 use Rattle.upload_book.specs.declared.head_row.Kind.TheVariants.{Final}
 use Rattle.upload_book.specs.declared.ready.ReadyBack.{ReadyBack}
+use Rattle.upload_book.specs.ExpiryList.{ExpiryList}
 use Rattle.upload_book.specs.inside.FinalBack.{brought_in, sent_len}
 use Rattle.upload_book.specs.inside.Texts.{IsTextsFor}
 use Rattle.upload_book.specs.inside.Places.{MayKeep}
@@ -24,14 +24,14 @@ use Rattle.upload_book.specs.Stored.{entry_of}
 use Rattle.upload_book.specs.TenantBook.{TenantBook, with_new}
 use Rattle.upload_book.specs.Upload.{Upload, is_complete, offset_of}
 use Rattle.upload_book.proofs.Charge.RoomLemmas.{room-within}
-use Rattle.upload_book.proofs.Expiries.BookEnds.{HasEnd, HasEnd-new}
-use Rattle.upload_book.proofs.Expiries.ExpirySteps.{AreExpiries-stays, IsRenewed, ids-below, next-none}
+use Rattle.upload_book.proofs.Expiries.BookEnds.{HasEnd-new}
+use Rattle.upload_book.proofs.Expiries.ExpirySteps.{IsRenewed, ids-below, next-none}
 use Rattle.upload_book.proofs.Lawful.SettingsLemmas.{last_id-within, uploads-within}
 use Rattle.upload_book.proofs.Restoring.FinalBack.{charge-final, complete-is, offset-back}
-use Rattle.upload_book.proofs.Restoring.LawfulBack.{IsBack, IsBack-from_none, IsLawful-upload, never-some}
+use Rattle.upload_book.proofs.Restoring.LawfulBack.{IsBack, IsBack-from_none, IsLawful-upload, final-complete}
 use Rattle.upload_book.proofs.Restoring.NextSteps.{after-none}
 use Rattle.upload_book.proofs.Steps.BookLemmas.{IsTenantOf-book, book_with as book_at, with_tenant_book-more}
-use Rattle.upload_book.proofs.Steps.BookSteps.{Follows, IsBook-follows, part-plain, part-sound, part-within, plain-follows, stored_with}
+use Rattle.upload_book.proofs.Steps.BookSteps.{Follows, IsBook-follows, IsIndex, part-plain, part-sound, part-within, plain-follows, stored_with}
 use Rattle.upload_book.proofs.Store.AloneLemmas.{segments-few}
 
 -- a final upload that is put back, and is not refused
@@ -62,19 +62,16 @@ module _ (b : StoredBook) (t : ℕ) (r : RestoredUpload) (is : IsFinalBack b t r
   final-form : HasSegments Final r.id r.segments
   final-form = subst (λ (kind : Kind). HasSegments kind r.id r.segments) is.kind is.form.segments
 
-  -- it is complete, and never ends
-  ends : (is_complete made ≡ true) × (not (is_some r.expires) ≡ true)
-  ends = and_parts (is_complete made) (not (is_some r.expires)) (subst (λ (kind : Kind). ends_rightly kind (is_complete made) r.expires ≡ true) is.kind back.can.ends)
-
-  no-end : r.expires ≡ None
-  no-end = never-some r.expires ends.1
+  -- it is complete
+  reached : is_complete made ≡ true
+  reached = final-complete b.settings.numbers (is_complete made) r.expires (subst (λ (kind : Kind). ends_rightly b.settings.numbers kind (is_complete made) r.expires ≡ true) is.kind back.can.ends)
 
   whole : r.declared ≡ Some (sent_len back.sent)
-  whole = complete-is r.declared (offset_of made) ends.0 ∙ ap Some (offset-back b.settings.numbers b.charged part r back.sent sound is.kind final-form back.fresh back.is)
+  whole = complete-is r.declared (offset_of made) reached ∙ ap Some (offset-back b.settings.numbers b.charged part r back.sent sound is.kind final-form back.fresh back.is)
 
   -- so it is as long as it says
   pub final-len : unwrap_or r.declared 0 ≡ offset_of made
-  final-len = ap (λ (declared : Option ℕ). unwrap_or declared 0) (complete-is r.declared (offset_of made) ends.0)
+  final-len = ap (λ (declared : Option ℕ). unwrap_or declared 0) (complete-is r.declared (offset_of made) reached)
 
   pub final-pays : charge_in b.settings.numbers (with_back part r.id made) ≡ charge_in b.settings.numbers part + final_blocks
   final-pays = charge-final b.settings.numbers b.charged part r back.sent sound is.kind final-form back.fresh back.is
@@ -118,7 +115,6 @@ module _ (b : StoredBook) (t : ℕ) (r : RestoredUpload) (is : IsFinalBack b t r
         sent = back.sent;
         had = ap (λ (part : TenantBook). sent_back (sent_in part.uploads) r.segments) (sym (part-plain b t)) ∙ back.is;
         whole = whole;
-        expires = no-end;
         fits = final-room_blocks;
         rooms = asked_at.rooms;
         empty = asked_at.empty;
@@ -157,19 +153,24 @@ module _ (b : StoredBook) (t : ℕ) (r : RestoredUpload) (is : IsFinalBack b t r
       with_tenant_book-more (plain_of b) t final_blocks (with_new part made) (ap (charge_in b.settings.numbers) (sym new-final) ∙ final-pays)
       ∙ ap (λ charged. book_at (plain_of b) (set (plain_in b.store) t (with_new part made)) charged b.released) (sym at)
 
-  -- it makes a book
-  pub IsBook-final : (s : BlockStore) (charged : ℕ) → Follows b s t (with_new part made) → charged ≡ b.charged + final_blocks → IsBook (record (stored_with b s charged b.released) { expiries = b.expiries })
-  IsBook-final s charged follows at =
+  -- the upload gets its end
+  pub final-renewed : IsRenewed (plain_of b) b.expiries.list t r.id (with_new part made) None r.expires
+  final-renewed =
       let below = ids-below b.settings.numbers part sound in
-      let stays : IsRenewed (plain_of b) b.expiries.list t part.next (with_new part made) None None = record {
+      subst (λ (id : ℕ). IsRenewed (plain_of b) b.expiries.list t id (with_new part made) None r.expires) back.next
+      (record {
         lawful = is.kept.lawful;
         are = is.kept.expiries;
         within = part-within b t is.within;
         was = next-none part below;
-        has = subst (HasEnd part (with_new part made) part.next) no-end (HasEnd-new part made below);
+        has = HasEnd-new part made below;
         after = final-lawful;
-      } in
-      IsBook-follows b s t (with_new part made) charged b.released b.expiries is.kept follows (final-totals charged at) final-lawful (record { expiries = AreExpiries-stays stays; room = refl })
+      })
+
+  -- it makes a book
+  pub IsBook-final : (s : BlockStore) (charged : ℕ) (e : ExpiryList) → Follows b s t (with_new part made) → charged ≡ b.charged + final_blocks → IsIndex b t (with_new part made) e → IsBook (record (stored_with b s charged b.released) { expiries = e })
+  IsBook-final s charged e follows at index =
+      IsBook-follows b s t (with_new part made) charged b.released e is.kept follows (final-totals charged at) final-lawful index
 
   -- which is the plain book with it
   pub plain-final : (s : BlockStore) (charged : ℕ) → Follows b s t (with_new part made) → charged ≡ b.charged + final_blocks → plain_of (stored_with b s charged b.released) ≡ book_after_piece (plain_of b) (piece.Upload t r)

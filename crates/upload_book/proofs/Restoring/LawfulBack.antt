@@ -1,5 +1,5 @@
 -- Whatever is put back, a lawful book stays lawful.
-use Rattle.std.proofs.Common.{◌≡◌, ◌≢◌, ◌⊎◌, ℕ, suc, ◌+◌, ◌-◌, ◌<◌, ◌≤◌, Bool, true, false, ◌||◌, eqb, ltb, leb, not, List, [], ◌∷◌, ◌++◌, map, length, get_or, Option, Some, None, IfSome, IsSome, is_some, unwrap_or, true≢false, refl, inl, inr, sym, ap, subst, ◌∙◌, arith, append_assoc}
+use Rattle.std.proofs.Common.{◌≡◌, ◌≢◌, ◌⊎◌, ℕ, suc, ◌+◌, ◌-◌, ◌<◌, ◌≤◌, Bool, true, false, ◌&&◌, ◌||◌, eqb, ltb, leb, not, List, [], ◌∷◌, ◌++◌, map, length, get_or, Option, Some, None, IfSome, is_some, unwrap_or, true≢false, refl, inl, inr, sym, ap, subst, ◌∙◌, arith, append_assoc}
 use Rattle.std.specs.List.{All, Contains, list_all, zip}
 use Rattle.std.specs.Option.{option_and_then, option_map}
 use Rattle.std.proofs.lemmas.Bool.{and_parts, eqb-true, leb-false, ltb-false, not-false}
@@ -14,6 +14,7 @@ use Rattle.upload_book.specs.declared.head_row.Kind.{Kind}
 use Rattle.upload_book.specs.declared.head_row.Kind.TheVariants.{Plain, Partial, Final}
 use Rattle.upload_book.specs.declared.refusal.Refusal.{Refusal}
 use Rattle.upload_book.specs.declared.settings.Numbers.{Numbers}
+use Rattle.upload_book.specs.Expiry.{may_end}
 use Rattle.upload_book.specs.Lawful.{HasParts, IsGivenIn, IsLawful, IsOfKind, IsSegmentOf, IsTenantOf, IsUploadOf, IsWhole, joined_in}
 use Rattle.upload_book.specs.PlainBook.{PlainBook, tenant_book, with_tenant_book}
 use Rattle.upload_book.specs.Refusal.{first_that_holds}
@@ -152,8 +153,8 @@ same-back standing (s ∷ segments) sent same is =
 
 -- those of final uploads are among them
 joined-kind : (part : TenantBook) (id : ℕ) (u : Upload) (kind : Kind) (s : Segment) → IsOfKind part u kind → Contains (zip u.parts u.segments) s → Contains (zip (origins kind id u.parts) u.segments) s
-joined-kind part id u Plain s sound there = absurd (Contains-none s (subst (λ (parts : List ℕ). Contains (zip parts u.segments) s) sound.0.parts there))
-joined-kind part id u Partial s sound there = absurd (Contains-none s (subst (λ (parts : List ℕ). Contains (zip parts u.segments) s) sound.0.parts there))
+joined-kind part id u Plain s sound there = absurd (Contains-none s (subst (λ (parts : List ℕ). Contains (zip parts u.segments) s) sound.parts there))
+joined-kind part id u Partial s sound there = absurd (Contains-none s (subst (λ (parts : List ℕ). Contains (zip parts u.segments) s) sound.parts there))
 joined-kind part id u Final s sound there = there
 
 joined-sent : (n : Numbers) (part : TenantBook) (entries : List (Entry Upload)) (s : Segment) → All (λ (e : Entry Upload). IsUploadOf n part e.kept) entries → Contains (joined_in entries) s → Contains (sent_in entries) s
@@ -169,7 +170,7 @@ joined-sent n part (e ∷ entries) s sound there =
 own-sent : (n : Numbers) (part : TenantBook) (id : ℕ) (u : Upload) → IsTenantOf n part → kept_in part.uploads id ≡ Some u → u.kind ≡ Partial → Contains (sent_in part.uploads) (id, content_of u)
 own-sent n part id u sound there partial =
     let lawful : IsUploadOf n part u = kept_in-All (IsUploadOf n part) part.uploads id u sound.uploads there in
-    let whole : IsWhole u = (subst (IsOfKind part u) partial lawful.kind).0 in
+    let whole : IsWhole u = subst (IsOfKind part u) partial lawful.kind in
     let segments : sent_of (record { id = id; kept = u }) ≡ (id, content_of u) ∷ [] = ap (λ (kind : Kind). zip (origins kind id u.parts) u.segments) partial ∙ own-segment u whole.segment id in
     flat_map-contains sent_of part.uploads (record { id = id; kept = u }) (id, content_of u) (kept_in-contains part.uploads id u there)
     (subst (λ (l : List Segment). Contains l (id, content_of u)) (sym segments) (Contains-first (id, content_of u) []))
@@ -178,7 +179,7 @@ own-sent n part id u sound there partial =
 
 -- what is known of one that is not refused
 pub record IsAcceptable (n : Numbers) (charged : ℕ) (part : TenantBook) (id : ℕ) (u : Upload) : Type 0 where
-  pub ends : ends_rightly u.kind (is_complete u) u.expires ≡ true
+  pub ends : ends_rightly n u.kind (is_complete u) u.expires ≡ true
   pub fits : is_too_long n (unwrap_or u.declared n.max_size) (offset_of u) ≡ false
   pub parts : list_all (may_be_part part) u.parts ≡ true
   pub room : length part.uploads < n.uploads
@@ -193,7 +194,7 @@ neither false b is = (refl, is)
 IsAcceptable-from_none : (n : Numbers) (charged : ℕ) (part : TenantBook) (id : ℕ) (u : Upload) → first_that_holds (restore_tests n charged part id u) ≡ None → IsAcceptable n charged part id u
 IsAcceptable-from_none n charged part id u none =
     let after = charge_in n (with_back part id u) in
-    let field = test-passed (not (ends_rightly u.kind (is_complete u) u.expires)) _ _ none in
+    let field = test-passed (not (ends_rightly n u.kind (is_complete u) u.expires)) _ _ none in
     let fits = test-passed (is_too_long n (unwrap_or u.declared n.max_size) (offset_of u)) _ _ field.1 in
     let parts = test-passed (not (list_all (may_be_part part) u.parts)) _ _ fits.1 in
     let room = test-passed (leb n.uploads (length part.uploads)) _ _ parts.1 in
@@ -234,18 +235,14 @@ own-sent-one : (standing : List Segment) (id : ℕ) (segments : List RestoredSeg
 own-sent-one standing id segments sent form is =
     length-map sent (λ (s : Segment). s.1) ∙ sent-length standing segments sent is ∙ ap length form.1
 
--- it ends as its kind asks
-pub never-some : (expires : Option ℕ) → not (is_some expires) ≡ true → expires ≡ None
-never-some None never = refl
-never-some (Some end) never = absurd (cc)
+-- it may have its end
+ends-may : (n : Numbers) (kind : Kind) (complete : Bool) (expires : Option ℕ) → ends_rightly n kind complete expires ≡ true → may_end n kind complete expires ≡ true
+ends-may n kind complete expires ends = (and_parts (may_end n kind complete expires) (complete || not (is_final kind)) ends).0
 
-plain-ends : (u : Upload) → ends_rightly Plain (is_complete u) u.expires ≡ true → (IsSome u.expires → ¬ (IsComplete u)) × (¬ (IsComplete u) → IsSome u.expires)
-plain-ends u ends = elim (complete_tells u) [
-  | inl complete ↦
-      let never : u.expires ≡ None = never-some u.expires (rw complete.0 at ends) in
-      (λ some. absurd (true≢false (sym some ∙ ap (is_some {T = ℕ}) never)), λ open'. absurd (open' complete.1))
-  | inr open' ↦ (λ some. open'.1, λ not_complete. (rw open'.0 at ends))
-]
+-- and a final one is complete
+pub final-complete : (n : Numbers) (complete : Bool) (expires : Option ℕ) → ends_rightly n Final complete expires ≡ true → complete ≡ true
+final-complete n true expires ends = refl
+final-complete n false expires ends = absurd (true≢false (sym (and_parts (may_end n Final false expires) false ends).1))
 
 -- the segments of a final one are those with its parts
 pub zip-sent : (sent : List (ℕ × List ℕ)) → zip (map {A = ℕ × List ℕ} {B = ℕ} (λ s. s.0) sent) (map {A = ℕ × List ℕ} {B = List ℕ} (λ s. s.1) sent) ≡ sent
@@ -339,17 +336,12 @@ module _ (n : Numbers) (charged : ℕ) (part : TenantBook) (r : RestoredUpload) 
 
   -- it is as its kind asks
   of-kind : (kind : Kind) → r.kind ≡ kind → IsOfKind later u kind
-  of-kind Plain is = (
-    record { segment = own-sent-one (sent_in part.uploads) r.id r.segments back.sent (subst (λ (kind : Kind). HasSegments kind r.id r.segments) is form.segments) back.is; parts = own-parts Plain is refl },
-    plain-ends u (subst (λ (kind : Kind). ends_rightly kind (is_complete u) u.expires ≡ true) is back.can.ends),
-  )
-  of-kind Partial is = (
-    record { segment = own-sent-one (sent_in part.uploads) r.id r.segments back.sent (subst (λ (kind : Kind). HasSegments kind r.id r.segments) is form.segments) back.is; parts = own-parts Partial is refl },
-    subst (λ (kind : Kind). ends_rightly kind (is_complete u) u.expires ≡ true) is back.can.ends,
-  )
+  of-kind Plain is =
+      record { segment = own-sent-one (sent_in part.uploads) r.id r.segments back.sent (subst (λ (kind : Kind). HasSegments kind r.id r.segments) is form.segments) back.is; parts = own-parts Plain is refl }
+  of-kind Partial is =
+      record { segment = own-sent-one (sent_in part.uploads) r.id r.segments back.sent (subst (λ (kind : Kind). HasSegments kind r.id r.segments) is form.segments) back.is; parts = own-parts Partial is refl }
   of-kind Final is =
-      let ends = and_parts (is_complete u) (not (is_some u.expires)) (subst (λ (kind : Kind). ends_rightly kind (is_complete u) u.expires ≡ true) is back.can.ends) in
-      (has-parts is, complete-from_test u ends.0, never-some u.expires ends.1)
+      (has-parts is, complete-from_test u (final-complete n (is_complete u) u.expires (subst (λ (kind : Kind). ends_rightly n kind (is_complete u) u.expires ≡ true) is back.can.ends)))
 
   shared-kind : (kind : Kind) → r.kind ≡ kind → HasSharedParts (with_next part r.id) r.id u
   shared-kind Plain is = HasSharedParts-none (with_next part r.id) r.id u (own-parts Plain is refl)
@@ -359,7 +351,7 @@ module _ (n : Numbers) (charged : ℕ) (part : TenantBook) (r : RestoredUpload) 
   upload-sound : IsUploadOf n later u
   upload-sound =
       let within = ends_within n u.declared (offset_of u) back.can.fits in
-      record { within = within.0; size = within.1; kind = of-kind r.kind refl; metadata = form.metadata; concat = form.concat }
+      record { within = within.0; size = within.1; kind = of-kind r.kind refl; ends = ends-may n u.kind (is_complete u) u.expires back.can.ends; metadata = form.metadata; concat = form.concat }
 
 -- a later next id leaves a part as it should be
 pub IsTenantOf-next : (n : Numbers) (part : TenantBook) (next : ℕ) → part.next ≤ next → next ≤ n.last_id + 1 → IsTenantOf n part → IsTenantOf n (with_next part next)

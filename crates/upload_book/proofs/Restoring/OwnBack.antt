@@ -81,7 +81,7 @@ module _ (n : Numbers) (charged : ℕ) (part : TenantBook) (r : RestoredUpload) 
   -- what refuses it where it is of a kind and so long, and so much is charged for all and paid by its tenant
   abbrev refused_by : Kind → ℕ → ℕ → ℕ → Option Refusal
   refused_by kind len total pays =
-      first_that_holds (tests_at (ends_rightly kind (is_reached r.declared len) r.expires) (is_too_long n (unwrap_or r.declared n.max_size) len) (leb n.uploads (length part.uploads)) (ltb n.last_id r.id) (ltb n.last_total total) (ltb part.quota pays))
+      first_that_holds (tests_at (ends_rightly n kind (is_reached r.declared len) r.expires) (is_too_long n (unwrap_or r.declared n.max_size) len) (leb n.uploads (length part.uploads)) (ltb n.last_id r.id) (ltb n.last_total total) (ltb part.quota pays))
 
   -- the tests of one under an id that was not given
   tests-own : part.next ≤ r.id → first_that_holds (restore_tests n charged part r.id made) ≡ refused_by r.kind (length bytes) (charged + blocks_added n 0 (length bytes)) (charge_in n part + blocks_added n 0 (length bytes))

@@ -93,9 +93,9 @@ own-kept standing id bytes none = rw none refl
 pub segments-kept : (part : TenantBook) (standing : List (ℕ × List ℕ)) (id : ℕ) (u : Upload) (kind : Kind) → IsOfKind part u kind → All (λ (s : ℕ × List ℕ). s.0 < id) standing → All (λ p. p < id) u.parts
     → HasSegments kind id (segments_kept standing (zip (origins kind id u.parts) u.segments))
 segments-kept part standing id u Plain sound below older =
-    (content_of u, rw (own-segment u sound.0.segment id) (own-kept standing id (content_of u) (bytes_from-none standing id below)))
+    (content_of u, rw (own-segment u sound.segment id) (own-kept standing id (content_of u) (bytes_from-none standing id below)))
 segments-kept part standing id u Partial sound below older =
-    (content_of u, rw (own-segment u sound.0.segment id) (own-kept standing id (content_of u) (bytes_from-none standing id below)))
+    (content_of u, rw (own-segment u sound.segment id) (own-kept standing id (content_of u) (bytes_from-none standing id below)))
 segments-kept part standing id u Final sound below older =
     let pairs : List Segment = zip u.parts u.segments in
     let long : length pairs ≡ length u.parts = omega (arith, length-zip u.parts u.segments, sound.0.each) in (
@@ -137,9 +137,9 @@ sent-kind : (part : TenantBook) (id : ℕ) (u : Upload) (kind : Kind) → kept_i
     → All (λ (s : Segment). IsSegmentOf part s.0 s.1) (joined_in part.uploads)
     → All (IsSent part) (zip (origins kind id u.parts) u.segments)
 sent-kind part id u Plain there sound joins stand =
-    rw (own-segment u sound.0.segment id) (All-cons (IsSent part) (id, content_of u) [] (inl (u, there, refl)) (All-nil (IsSent part)))
+    rw (own-segment u sound.segment id) (All-cons (IsSent part) (id, content_of u) [] (inl (u, there, refl)) (All-nil (IsSent part)))
 sent-kind part id u Partial there sound joins stand =
-    rw (own-segment u sound.0.segment id) (All-cons (IsSent part) (id, content_of u) [] (inl (u, there, refl)) (All-nil (IsSent part)))
+    rw (own-segment u sound.segment id) (All-cons (IsSent part) (id, content_of u) [] (inl (u, there, refl)) (All-nil (IsSent part)))
 sent-kind part id u Final there sound joins stand = λ k d within.
     let s : Segment = get_or (zip u.parts u.segments) k d in
     let listed : Contains (joined_in part.uploads) s = joins s (Contains-get_or (zip u.parts u.segments) k d within) in

@@ -1,5 +1,5 @@
 -- An upload of a lawful part is put back behind those before it.
-use Rattle.std.proofs.Common.{◌≡◌, ℕ, zero, suc, ◌+◌, ◌-◌, ◌<◌, ◌≤◌, max, Bool, true, false, ◌&&◌, ◌||◌, cond, eqb, ltb, leb, not, List, [], ◌∷◌, ◌++◌, map, length, get_or, Option, Some, None, IfSome, IsSome, is_some, unwrap_or, refl, inl, inr, sym, ap, ap₂, subst, ◌∙◌, arith, append_assoc, length-append}
+use Rattle.std.proofs.Common.{◌≡◌, ℕ, zero, suc, ◌+◌, ◌-◌, ◌<◌, ◌≤◌, max, Bool, true, false, ◌&&◌, ◌||◌, cond, eqb, ltb, leb, not, List, [], ◌∷◌, ◌++◌, map, length, get_or, Option, Some, None, IfSome, is_some, unwrap_or, refl, inl, inr, sym, ap, ap₂, subst, ◌∙◌, arith, append_assoc, length-append}
 use Rattle.std.specs.List.{All, Contains, flat_map, list_all, zip}
 use Rattle.std.specs.List.Sorted.{IsStrictlyIncreasing}
 use Rattle.std.proofs.lemmas.Bool.{cases_lt}
@@ -10,7 +10,7 @@ use Rattle.std.proofs.lemmas.List.Elements.{All-contains, All-head, All-push, Al
 use Rattle.std.proofs.lemmas.List.Kept.{AllPairs-from_increasing}
 use Rattle.std.proofs.lemmas.Slice.Zip.{length-zip, get_or-zip}
 use Rattle.std.proofs.Math.ListN.{get_or-map, length-map}
-use Rattle.upload_book.specs.Append.{is_too_long}
+use Rattle.upload_book.specs.Append.{is_final, is_too_long}
 use Rattle.upload_book.specs.Charge.{Source, charge_in, origins, price, sources_of, sum_below}
 use Rattle.upload_book.specs.Concat.{is_partial}
 use Rattle.upload_book.specs.declared.head_row.Kind.{Kind}
@@ -52,13 +52,13 @@ zip-seconds (id ∷ ids) [] same = absurd (omega arith)
 zip-seconds (id ∷ ids) (s ∷ segments) same = ap (λ rest. s ∷ rest) (zip-seconds ids segments (omega arith))
 
 parts-kind : (part : TenantBook) (id : ℕ) (u : Upload) (kind : Kind) → IsOfKind part u kind → parts_of kind (map {A = ℕ × List ℕ} {B = ℕ} (λ s. s.0) (zip (origins kind id u.parts) u.segments)) ≡ u.parts
-parts-kind part id u Plain sound = sym sound.0.parts
-parts-kind part id u Partial sound = sym sound.0.parts
+parts-kind part id u Plain sound = sym sound.parts
+parts-kind part id u Partial sound = sym sound.parts
 parts-kind part id u Final sound = zip-firsts u.parts u.segments sound.0.each
 
 segments-kind : (part : TenantBook) (id : ℕ) (u : Upload) (kind : Kind) → IsOfKind part u kind → map {A = ℕ × List ℕ} {B = List ℕ} (λ s. s.1) (zip (origins kind id u.parts) u.segments) ≡ u.segments
-segments-kind part id u Plain sound = zip-seconds (id ∷ []) u.segments sound.0.segment
-segments-kind part id u Partial sound = zip-seconds (id ∷ []) u.segments sound.0.segment
+segments-kind part id u Plain sound = zip-seconds (id ∷ []) u.segments sound.segment
+segments-kind part id u Partial sound = zip-seconds (id ∷ []) u.segments sound.segment
 segments-kind part id u Final sound = zip-seconds u.parts u.segments sound.0.each
 
 upload-kept : (part : TenantBook) (before : List (Entry Upload)) (e : Entry Upload) → IsOfKind part e.kept e.kept.kind → upload_back (upload_kept before e) (sent_of e) ≡ e.kept
@@ -70,20 +70,21 @@ upload-kept part before e sound =
 is-complete : (u : Upload) → IsComplete u → is_complete u ≡ true
 is-complete u complete = elim (complete_tells u) [ inl both ↦ both.0 | inr open' ↦ absurd (open'.1 complete) ]
 
-none-some : (expires : Option ℕ) → ¬ (IsSome expires) → not (is_some expires) ≡ true
-none-some None never = refl
-none-some (Some end) never = absurd (never refl)
-
-ends-kind : (part : TenantBook) (u : Upload) (kind : Kind) → IsOfKind part u kind → ends_rightly kind (is_complete u) u.expires ≡ true
-ends-kind part u Plain sound = elim (complete_tells u) [
-  | inl complete ↦ rw complete.0 (none-some u.expires (λ some. sound.1.0 some complete.1))
-  | inr open' ↦ rw open'.0 (sound.1.1 open'.1)
-]
-ends-kind part u Partial sound = sound.1
-ends-kind part u Final sound = rw (is-complete u sound.1, sound.2) refl
-
 both : (a b : Bool) → a ≡ true → b ≡ true → (a && b) ≡ true
 both a b first second = rw (first, second) refl
+
+-- one that is no final one may be open
+open-own : (complete : Bool) → (complete || true) ≡ true
+open-own true = refl
+open-own false = refl
+
+whole-kind : (part : TenantBook) (u : Upload) (kind : Kind) → IsOfKind part u kind → (is_complete u || not (is_final kind)) ≡ true
+whole-kind part u Plain sound = open-own (is_complete u)
+whole-kind part u Partial sound = open-own (is_complete u)
+whole-kind part u Final sound = rw (is-complete u sound.1) refl
+
+ends-kind : (n : Numbers) (part : TenantBook) (u : Upload) → IsUploadOf n part u → ends_rightly n u.kind (is_complete u) u.expires ≡ true
+ends-kind n part u sound = both _ _ sound.ends (whole-kind part u u.kind sound.kind)
 
 list_all-from : {X : Type 0} (test : X → Bool) (xs : List X) → All (λ x. test x ≡ true) xs → list_all test xs ≡ true
 list_all-from test [] all = refl
@@ -118,8 +119,8 @@ part-kept part next before after id segment is sound = by (kept_in before id) re
       rw there (both _ _ (ap is_partial seen.0) (is-complete u seen.1))
 
 parts-kept : (part : TenantBook) (next : ℕ) (before after : List (Entry Upload)) (u : Upload) (kind : Kind) → part.uploads ≡ before ++ after → IsOfKind part u kind → list_all (may_be_part (front part next before)) u.parts ≡ true
-parts-kept part next before after u Plain is sound = rw sound.0.parts refl
-parts-kept part next before after u Partial is sound = rw sound.0.parts refl
+parts-kept part next before after u Plain is sound = rw sound.parts refl
+parts-kept part next before after u Partial is sound = rw sound.parts refl
 parts-kept part next before after u Final is sound = list_all-from (may_be_part (front part next before)) u.parts (λ k d within.
     let parts : HasParts part u = sound.0 in
     let Q : (ℕ × List ℕ) → Type 0 = λ (p : ℕ × List ℕ). IsSegmentOf part p.0 p.1 in
@@ -234,7 +235,7 @@ module _ (n : Numbers) (part : TenantBook) (next : ℕ) (before after : List (En
       ap (λ (other : Bool). cond other (Some Field) (refusal_with n charged (front part next before) (upload_kept before e) (sent_back (sent_in before) (segments_kept (sent_in before) (sent_of e))))) (itself _ _ next-is)
       ∙ ap (refusal_with n charged (front part next before) (upload_kept before e)) sent-kept
       ∙ ap (λ u. first_that_holds (restore_tests n charged (front part next before) e.id u)) (upload-kept part before e own.kind)
-      ∙ none-holds _ _ _ _ _ _ _ (ends-kind part e.kept e.kept.kind own.kind)
+      ∙ none-holds _ _ _ _ _ _ _ (ends-kind n part e.kept own)
       (fits-kept n e.kept.declared (offset_of e.kept) own.within own.size)
       (parts-kept part next before (e ∷ after) e.kept e.kept.kind can.all own.kind)
       (not-le _ _ few)

@@ -5,7 +5,7 @@ use Rattle.upload_book.specs.Account.{account_in}
 use Rattle.upload_book.specs.Append.{append_refusal, upload_with}
 use Rattle.upload_book.specs.Charge.{charge_in}
 use Rattle.upload_book.specs.Chunk.{Chunk}
-use Rattle.upload_book.specs.Concat.{concat_refusal, final_upload, parts_found}
+use Rattle.upload_book.specs.Concat.{concat_refusal, joined_upload}
 use Rattle.upload_book.specs.Create.{creation_refusal, created_upload}
 use Rattle.upload_book.specs.declared.settings.Numbers.{Numbers}
 use Rattle.upload_book.specs.Lawful.{IsLawful, IsTenantOf}
@@ -71,11 +71,11 @@ IsTenantOf-book b t lawful within = lawful.tenants t (opening_part 0) within
 
 -- a concatenation that is not refused leaves a lawful book lawful
 pub IsLawful-concat : (b : PlainBook) (t : ℕ) (new : NewFinal) (now : ℕ) → IsLawful b → t < length b.tenants → concat_refusal b.settings.numbers (tenant_book b t) new now ≡ None → HasLawfulParts new
-    → IsLawful (with_tenant_book b t (with_new (tenant_book b t) (final_upload (parts_found (tenant_book b t) now new.parts) new)))
+    → IsLawful (with_tenant_book b t (with_new (tenant_book b t) (joined_upload b.settings.numbers (tenant_book b t) new now)))
 IsLawful-concat b t new now lawful within none asked =
     let part : TenantBook = tenant_book b t in
     let sound = IsTenantOf-book b t lawful within in
-    IsLawful-with_tenant_book-same b t (with_new part (final_upload (parts_found part now new.parts) new)) lawful within refl
+    IsLawful-with_tenant_book-same b t (with_new part (joined_upload b.settings.numbers part new now)) lawful within refl
     (IsTenantOf-concat b.settings.numbers part new now none asked sound)
     (charge-concat b.settings.numbers part new now sound)
 

@@ -1,15 +1,17 @@
 -- The book where partial uploads are joined to a final one.
-use Rattle.std.proofs.Common.{◌≡◌, ℕ, ◌+◌, ◌<◌, Bool, not, ◌&&◌, ltb, leb, List, [], ◌∷◌, length, min, set, get_or, Option, None, refl, sym, ap, ◌∙◌, subst, arith}
+use Rattle.std.proofs.Common.{◌≡◌, ℕ, ◌+◌, ◌<◌, Bool, not, ◌&&◌, ltb, leb, List, [], ◌∷◌, length, min, set, get_or, Option, None, refl, sym, ap, ap₂, ◌∙◌, subst, arith}
 use Rattle.std.proofs.Math.ListN.{length-map}
 use Rattle.std.proofs.lemmas.Bool.Decides.{nat_tests}
 use Rattle.block_bodies.specs.Changes.{SameSizes}
 use Rattle.upload_book.specs.Book.{StoredBook, IsBook, plain_of}
-use Rattle.upload_book.specs.Concat.{are_complete, are_there, concat_refusal, concat_tests, final_upload, joined_len, part_after_concat, parts_found, rows_of}
+use Rattle.upload_book.specs.Concat.{are_complete, are_there, concat_refusal, concat_tests, final_upload, joined_len, joined_upload, part_after_concat, parts_found, rows_of}
 use Rattle.upload_book.specs.declared.head_row.HeadRow.{HeadRow}
 use Rattle.upload_book.specs.declared.parts_seen.PartsSeen.{PartsSeen}
 use Rattle.upload_book.specs.declared.refusal.Refusal.{Refusal}
 use Rattle.upload_book.specs.declared.refusal.Refusal.TheVariants.{TooLong, Part, PartOpen, Uploads, Spent}
 use Rattle.upload_book.specs.declared.settings.Numbers.{Numbers}
+use Rattle.upload_book.specs.Expiry.{finished_end}
+use Rattle.upload_book.specs.ExpiryList.{ExpiryList}
 use Rattle.upload_book.specs.Lawful.{IsTenantOf}
 use Rattle.upload_book.specs.NewFinal.{NewFinal}
 use Rattle.upload_book.specs.PlainBook.{book_after, tenant_book, with_tenant_book}
@@ -21,9 +23,8 @@ use Rattle.upload_book.specs.TenantBook.{TenantBook, with_new}
 use Rattle.upload_book.proofs.Store.AloneLemmas.{segments-few}
 use Rattle.upload_book.proofs.Steps.BookLemmas.{book_with, IsLawful-concat, IsTenantOf-book, with_tenant_book-same}
 use Rattle.upload_book.proofs.Expiries.BookEnds.{HasEnd-new}
-use Rattle.upload_book.proofs.Expiries.ExpirySteps.{AreExpiries-stays, IsRenewed, ids-below, next-none}
-use Rattle.upload_book.specs.Upload.{Upload}
-use Rattle.upload_book.proofs.Steps.BookSteps.{Follows, IsBook-follows, part-plain, part-sound, part-within, plain-follows, stored_tenants-settings, stored_with}
+use Rattle.upload_book.proofs.Expiries.ExpirySteps.{IsRenewed, ids-below, next-none}
+use Rattle.upload_book.proofs.Steps.BookSteps.{Follows, IsBook-follows, IsIndex, part-plain, part-sound, part-within, plain-follows, stored_tenants-settings, stored_with}
 use Rattle.upload_book.proofs.Lawful.LawfulConcat.{HasLawfulParts, IsJoinable, IsJoinable-from_none, charge-concat}
 use Rattle.upload_book.proofs.Lawful.Outcomes.{part_after_concat-none}
 use Rattle.upload_book.proofs.Lawful.SettingsLemmas.{last_id-within, max_size-within, uploads-within}
@@ -127,10 +128,11 @@ SeesParts-read b w t place n named new now seen kept is within at numbers same t
 }
 
 -- a joined upload makes the book after the concatenation
-pub concat-follows : (b : StoredBook) (s : BlockStore) (t : ℕ) (new : NewFinal) (now : ℕ) → plain_in s ≡ set (plain_in b.store) t (with_new (part_at b.store t) (final_upload (parts_found (part_at b.store t) now new.parts) new)) → SameSizes b.store.pool s.pool → s.room ≡ b.store.room
-    → Follows b s t (with_new (tenant_book (plain_of b) t) (final_upload (parts_found (tenant_book (plain_of b) t) now new.parts) new))
-concat-follows b s t new now plain sizes room = record {
-  plain = plain ∙ ap (λ part. set (plain_in b.store) t (with_new part (final_upload (parts_found part now new.parts) new))) (sym (part-plain b t));
+pub concat-follows : (b : StoredBook) (s : BlockStore) (t : ℕ) (new : NewFinal) (now : ℕ) (expires : Option ℕ) → expires ≡ finished_end b.settings.numbers now
+    → plain_in s ≡ set (plain_in b.store) t (with_new (part_at b.store t) (final_upload (parts_found (part_at b.store t) now new.parts) new expires)) → SameSizes b.store.pool s.pool → s.room ≡ b.store.room
+    → Follows b s t (with_new (tenant_book (plain_of b) t) (joined_upload b.settings.numbers (tenant_book (plain_of b) t) new now))
+concat-follows b s t new now expires end plain sizes room = record {
+  plain = plain ∙ ap₂ (λ part expires. set (plain_in b.store) t (with_new part (final_upload (parts_found part now new.parts) new expires))) (sym (part-plain b t)) end;
   sizes = sizes;
   room = room;
 }
@@ -141,17 +143,17 @@ pub record Concats (b : StoredBook) (s : BlockStore) (t : ℕ) (new : NewFinal) 
   pub within : t < length b.store.stored_tenants
   pub parts : HasLawfulParts new
   pub none : concat_refusal b.settings.numbers (tenant_book (plain_of b) t) new now ≡ None
-  pub follows : Follows b s t (with_new (tenant_book (plain_of b) t) (final_upload (parts_found (tenant_book (plain_of b) t) now new.parts) new))
+  pub follows : Follows b s t (with_new (tenant_book (plain_of b) t) (joined_upload b.settings.numbers (tenant_book (plain_of b) t) new now))
 
 -- it is one where the store joined the upload
-pub Concats-read : {b : StoredBook} {t place : ℕ} {n : Numbers} {named : List (Option ℕ)} {new : NewFinal} {now : ℕ} {seen : PartsSeen} (s : SeesParts b t place n named new now seen) (after : BlockStore) → concat_refusal b.settings.numbers (tenant_book (plain_of b) t) new now ≡ None → HasLawfulParts new
-    → plain_in after ≡ set (plain_in b.store) place (with_new (part_at b.store place) (final_upload (parts_found (part_at b.store place) now new.parts) new)) → SameSizes b.store.pool after.pool → after.room ≡ b.store.room → Concats b after t new now
-Concats-read {b} {t} {place} {n} {named} {new} {now} s after none parts plain sizes room = record {
+pub Concats-read : {b : StoredBook} {t place : ℕ} {n : Numbers} {named : List (Option ℕ)} {new : NewFinal} {now : ℕ} {seen : PartsSeen} (s : SeesParts b t place n named new now seen) (after : BlockStore) (expires : Option ℕ) → expires ≡ finished_end b.settings.numbers now → concat_refusal b.settings.numbers (tenant_book (plain_of b) t) new now ≡ None → HasLawfulParts new
+    → plain_in after ≡ set (plain_in b.store) place (with_new (part_at b.store place) (final_upload (parts_found (part_at b.store place) now new.parts) new expires)) → SameSizes b.store.pool after.pool → after.room ≡ b.store.room → Concats b after t new now
+Concats-read {b} {t} {place} {n} {named} {new} {now} s after expires end none parts plain sizes room = record {
   kept = s.kept;
   within = s.within;
   parts = parts;
   none = none;
-  follows = concat-follows b after t new now (subst (λ t. plain_in after ≡ set (plain_in b.store) t (with_new (part_at b.store t) (final_upload (parts_found (part_at b.store t) now new.parts) new))) s.at plain) sizes room;
+  follows = concat-follows b after t new now expires end (subst (λ t. plain_in after ≡ set (plain_in b.store) t (with_new (part_at b.store t) (final_upload (parts_found (part_at b.store t) now new.parts) new expires))) s.at plain) sizes room;
 }
 
 -- its id is the next one
@@ -160,33 +162,38 @@ id-told {b} {t} s id is = is ∙ ap (λ t. (part_at b.store t).next) s.at ∙ ap
 
 -- leaves the totals
 concats-totals : (b : StoredBook) (s : BlockStore) (t : ℕ) (new : NewFinal) (now : ℕ) → Concats b s t new now
-    → let part = tenant_book (plain_of b) t in let after = with_new part (final_upload (parts_found part now new.parts) new) in with_tenant_book (plain_of b) t after ≡ book_with (plain_of b) (set (plain_in b.store) t after) b.charged b.released
+    → let part = tenant_book (plain_of b) t in let after = with_new part (joined_upload b.settings.numbers part new now) in with_tenant_book (plain_of b) t after ≡ book_with (plain_of b) (set (plain_in b.store) t after) b.charged b.released
 concats-totals b s t new now f =
     let part : TenantBook = tenant_book (plain_of b) t in
-    with_tenant_book-same (plain_of b) t (with_new part (final_upload (parts_found part now new.parts) new)) (charge-concat b.settings.numbers part new now (IsTenantOf-book (plain_of b) t f.kept.lawful (part-within b t f.within)))
+    with_tenant_book-same (plain_of b) t (with_new part (joined_upload b.settings.numbers part new now)) (charge-concat b.settings.numbers part new now (IsTenantOf-book (plain_of b) t f.kept.lawful (part-within b t f.within)))
+
+-- the upload gets its end
+pub concat-renewed : (b : StoredBook) (t : ℕ) (new : NewFinal) (now : ℕ) → IsBook b → t < length b.store.stored_tenants → HasLawfulParts new → concat_refusal b.settings.numbers (tenant_book (plain_of b) t) new now ≡ None
+    → let part = tenant_book (plain_of b) t in IsRenewed (plain_of b) b.expiries.list t part.next (with_new part (joined_upload b.settings.numbers part new now)) None (finished_end b.settings.numbers now)
+concat-renewed b t new now kept within parts none =
+    let part : TenantBook = tenant_book (plain_of b) t in
+    let below = ids-below b.settings.numbers part (IsTenantOf-book (plain_of b) t kept.lawful (part-within b t within)) in
+    record {
+      lawful = kept.lawful;
+      are = kept.expiries;
+      within = part-within b t within;
+      was = next-none part below;
+      has = HasEnd-new part (joined_upload b.settings.numbers part new now) below;
+      after = IsLawful-concat (plain_of b) t new now kept.lawful (part-within b t within) none parts;
+    }
 
 -- makes a book
-pub IsBook-concats : (b : StoredBook) (s : BlockStore) (t : ℕ) (new : NewFinal) (now : ℕ) → Concats b s t new now → IsBook (stored_with b s b.charged b.released)
-IsBook-concats b s t new now f =
+pub IsBook-concats : (b : StoredBook) (s : BlockStore) (t : ℕ) (new : NewFinal) (now : ℕ) (e : ExpiryList) → Concats b s t new now
+    → let part = tenant_book (plain_of b) t in IsIndex b t (with_new part (joined_upload b.settings.numbers part new now)) e → IsBook (record (stored_with b s b.charged b.released) { expiries = e })
+IsBook-concats b s t new now e f index =
     let part : TenantBook = tenant_book (plain_of b) t in
-    let final : Upload = final_upload (parts_found part now new.parts) new in
-    let lawful = IsLawful-concat (plain_of b) t new now f.kept.lawful (part-within b t f.within) f.none f.parts in
-    let below = ids-below b.settings.numbers part (IsTenantOf-book (plain_of b) t f.kept.lawful (part-within b t f.within)) in
-    let stays : IsRenewed (plain_of b) b.expiries.list t part.next (with_new part final) None None = record {
-      lawful = f.kept.lawful;
-      are = f.kept.expiries;
-      within = part-within b t f.within;
-      was = next-none part below;
-      has = HasEnd-new part final below;
-      after = lawful;
-    } in
-    IsBook-follows b s t (with_new part final) b.charged b.released b.expiries f.kept f.follows (concats-totals b s t new now f) lawful (record { expiries = AreExpiries-stays stays; room = refl })
+    IsBook-follows b s t (with_new part (joined_upload b.settings.numbers part new now)) b.charged b.released e f.kept f.follows (concats-totals b s t new now f) (concat-renewed b t new now f.kept f.within f.parts f.none).after index
 
 -- and is the plain book's concatenation
 pub plain-concats : (b : StoredBook) (s : BlockStore) (t : ℕ) (new : NewFinal) (now : ℕ) → Concats b s t new now → plain_of (stored_with b s b.charged b.released) ≡ book_after (plain_of b) t (part_after_concat new now)
 plain-concats b s t new now f =
     let part : TenantBook = tenant_book (plain_of b) t in
-    plain-follows b s t (with_new part (final_upload (parts_found part now new.parts) new)) b.charged b.released f.follows (concats-totals b s t new now f)
+    plain-follows b s t (with_new part (joined_upload b.settings.numbers part new now)) b.charged b.released f.follows (concats-totals b s t new now f)
     ∙ ap (with_tenant_book (plain_of b) t) (sym (part_after_concat-none b.settings.numbers part new now f.none))
 
 -- so are the parts of a concatenation for which the book is ready

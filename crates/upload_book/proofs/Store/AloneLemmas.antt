@@ -92,6 +92,6 @@ alone-store s t i e own is alone =
 
 -- an upload of each kind has at most 32 segments
 pub segments-few : (part : TenantBook) (u : Upload) (kind : Kind) → IsOfKind part u kind → length u.segments ≤ 32
-segments-few part u Plain is = omega (arith, is.0.segment)
-segments-few part u Partial is = omega (arith, is.0.segment)
+segments-few part u Plain is = omega (arith, is.segment)
+segments-few part u Partial is = omega (arith, is.segment)
 segments-few part u Final is = omega (arith, is.0.few, is.0.each)

@@ -88,7 +88,7 @@ module _ (v : Inside) (t : ℕ) (old : KeptTenant) (r : ReadyBack) (kept : IsKep
 
   -- the upload with these pieces
   abbrev joined : Bool → List Piece → StoredUpload
-  joined boxed pieces = final_of boxed (final_named r.upload) pieces
+  joined boxed pieces = final_of boxed (final_named r.upload) pieces r.upload.expires
 
   -- each may be had
   pub back-may : MayBringEach v.pool (pieces_of was) segments r.bodies.items
@@ -151,9 +151,9 @@ module _ (v : Inside) (t : ℕ) (old : KeptTenant) (r : ReadyBack) (kept : IsKep
           concat = r.upload.concat;
           expires = expires;
         } in
-        ap₂ (λ (kind : Kind) (declared : Option ℕ). made kind declared None (map {A = Piece} {B = ℕ} (λ x. x.origin) pieces) (map {A = Piece} {B = List ℕ} (λ x. content_of q x.chain) pieces)) (sym may.final) declared
-        ∙ ap₂ (λ (origins : List ℕ) (contents : List (List ℕ)). made r.upload.kind r.upload.declared None origins contents) (sym (sent-firsts q pieces)) (sym (sent-seconds q pieces))
-        ∙ ap₂ (λ (expires : Option ℕ) (sent : List (ℕ × List ℕ)). made r.upload.kind r.upload.declared expires (map {A = ℕ × List ℕ} {B = ℕ} (λ s. s.0) sent) (map {A = ℕ × List ℕ} {B = List ℕ} (λ s. s.1) sent)) (sym may.expires) (sym one)
+        ap₂ (λ (kind : Kind) (declared : Option ℕ). made kind declared r.upload.expires (map {A = Piece} {B = ℕ} (λ x. x.origin) pieces) (map {A = Piece} {B = List ℕ} (λ x. content_of q x.chain) pieces)) (sym may.final) declared
+        ∙ ap₂ (λ (origins : List ℕ) (contents : List (List ℕ)). made r.upload.kind r.upload.declared r.upload.expires origins contents) (sym (sent-firsts q pieces)) (sym (sent-seconds q pieces))
+        ∙ ap (λ (sent : List (ℕ × List ℕ)). made r.upload.kind r.upload.declared r.upload.expires (map {A = ℕ × List ℕ} {B = ℕ} (λ s. s.0) sent) (map {A = ℕ × List ℕ} {B = List ℕ} (λ s. s.1) sent)) (sym one)
 
     module _ (boxed : Bool) (changed : KeptTenant) (taken : ℕ) (free : taken + free_in q ≡ free_in v.pool) (quota : changed.quota ≡ old.quota) (next : changed.next ≡ old.next + 1) (charge : changed.charge ≡ old.charge + taken) (uploads : changed.uploads.items ≡ old.uploads.items ++ record { id = old.next; kept = joined boxed pieces } ∷ [])
         (room : HasUploadRoom v.room changed) where

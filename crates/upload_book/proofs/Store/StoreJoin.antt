@@ -134,12 +134,12 @@ JoinsIn-held v s t old named new now unheld before pieces q is part same listed 
     }
 
 -- the part with the upload
-pub record IsJoined (v : Inside) (old changed : KeptTenant) (new : NewFinal) (pieces : List Piece) : Type 0 where
+pub record IsJoined (v : Inside) (old changed : KeptTenant) (new : NewFinal) (pieces : List Piece) (expires : Option ℕ) : Type 0 where
   pub quota : changed.quota ≡ old.quota
   pub next : changed.next ≡ old.next + 1
   pub charge : changed.charge ≡ old.charge
   pub boxed : Bool
-  pub uploads : changed.uploads.items ≡ old.uploads.items ++ record { id = old.next; kept = final_of boxed new pieces } ∷ []
+  pub uploads : changed.uploads.items ≡ old.uploads.items ++ record { id = old.next; kept = final_of boxed new pieces expires } ∷ []
   pub room : HasUploadRoom v.room changed
 
 -- the pieces are copies of the tenant's
@@ -170,9 +170,9 @@ joined-len v t old named now pieces kept part same =
     ∙ sym (lens-own v.pool (parts_kept (stored_tenant_of old) now named) (AreOwn-named v t old named now kept part))
     ∙ sym (lens-same pieces (flat_map kept_pieces (parts_kept (stored_tenant_of old) now named)) same)
 
-module _ (v : Inside) (t : ℕ) (old changed : KeptTenant) (new : NewFinal) (now : ℕ) (pieces : List Piece) (q : Blocks) (kept : IsKept v) (joins : JoinsIn v t old new now pieces q) (is : IsJoined v old changed new pieces) where
+module _ (v : Inside) (t : ℕ) (old changed : KeptTenant) (new : NewFinal) (now : ℕ) (pieces : List Piece) (expires : Option ℕ) (q : Blocks) (kept : IsKept v) (joins : JoinsIn v t old new now pieces q) (is : IsJoined v old changed new pieces expires) where
   abbrev final : StoredUpload
-  final = final_of is.boxed new pieces
+  final = final_of is.boxed new pieces expires
 
   stored_tenant : stored_tenant_of changed ≡ with_new (stored_tenant_of old) final
   stored_tenant = rw (is.quota, is.next, is.uploads) refl
@@ -206,7 +206,7 @@ module _ (v : Inside) (t : ℕ) (old changed : KeptTenant) (new : NewFinal) (now
       is.room
 
   -- it is the final upload of its parts
-  final-plain : upload_of q final ≡ final_upload (parts_found (part_of v.pool (stored_tenant_of old)) now new.parts) new
+  final-plain : upload_of q final ≡ final_upload (parts_found (part_of v.pool (stored_tenant_of old)) now new.parts) new expires
   final-plain =
       let entries = parts_kept (stored_tenant_of old) now new.parts in
       let are = AreOwn-named v t old new.parts now kept joins.part in
@@ -216,15 +216,15 @@ module _ (v : Inside) (t : ℕ) (old changed : KeptTenant) (new : NewFinal) (now
       rw (parts-plain v.pool (stored_tenant_of old) now new.parts) (same_final _ _ _ _ _ _ ids segments len)
     where
       same_final : (ids ids' : List ℕ) (segments segments' : List (List ℕ)) (len len' : ℕ) → ids ≡ ids' → segments ≡ segments' → len ≡ len'
-          → ◌≡◌ {A = Upload} (record { kind = Final; parts = ids; declared = Some len; segments = segments; metadata = new.metadata; concat = new.concat; expires = None }) (record { kind = Final; parts = ids'; declared = Some len'; segments = segments'; metadata = new.metadata; concat = new.concat; expires = None })
+          → ◌≡◌ {A = Upload} (record { kind = Final; parts = ids; declared = Some len; segments = segments; metadata = new.metadata; concat = new.concat; expires = expires }) (record { kind = Final; parts = ids'; declared = Some len'; segments = segments'; metadata = new.metadata; concat = new.concat; expires = expires })
       same_final ids ids' segments segments' len len' same same' same'' = rw (same, same', same'') refl
 
   -- the plain book gets it
-  pub plain-joined : plain_in (store_of (with_stored_tenant v q t changed)) ≡ set (plain_in (store_of v)) t (with_new (part_at (store_of v) t) (final_upload (parts_found (part_at (store_of v) t) now new.parts) new))
+  pub plain-joined : plain_in (store_of (with_stored_tenant v q t changed)) ≡ set (plain_in (store_of v)) t (with_new (part_at (store_of v) t) (final_upload (parts_found (part_at (store_of v) t) now new.parts) new expires))
   plain-joined =
       plain_in-with_stored_tenant v q t old changed joins.part (λ k other there differs b some. joins.holds.bytes b)
       ∙ ap (set (plain_in (store_of v)) t) (ap (part_of q) stored_tenant ∙ part-with_new v.pool q (stored_tenant_of old) final (λ b some. joins.holds.bytes b) ∙ ap (with_new (part_of v.pool (stored_tenant_of old))) final-plain
-      ∙ ap (λ (s : StoredTenant). with_new (part_of v.pool s) (final_upload (parts_found (part_of v.pool s) now new.parts) new)) (sym (stored_tenant_at-part v t old joins.part)))
+      ∙ ap (λ (s : StoredTenant). with_new (part_of v.pool s) (final_upload (parts_found (part_of v.pool s) now new.parts) new expires)) (sym (stored_tenant_at-part v t old joins.part)))
 
   -- the tenant pays as much as before
   pub charge-joined : charge_with v.pool.block_size (part_at (store_of (with_stored_tenant v q t changed)) t) ≡ charge_with v.pool.block_size (part_at (store_of v) t)

@@ -38,7 +38,7 @@ row_back r len = record {
 abbrev pub own_tests : Numbers → Account → TenantBook → RestoredUpload → ℕ → List (Bool × Refusal)
 own_tests n account part r len =
     let after = account_with account (blocks_added n 0 len) in
-    (not (r.id == part.next) || not (ends_rightly r.kind (is_reached r.declared len) r.expires), Field)
+    (not (r.id == part.next) || not (ends_rightly n r.kind (is_reached r.declared len) r.expires), Field)
     ∷ (is_too_long n (unwrap_or r.declared n.max_size) len, TooLong)
     ∷ (nat_le n.uploads (length part.uploads), Uploads)
     ∷ (nat_lt n.last_id r.id || nat_lt n.last_total after.charged, Spent)

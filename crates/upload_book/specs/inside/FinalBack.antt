@@ -80,7 +80,7 @@ limits_of n account declared = record {
 -- the tests of a final upload whose segments are had, where so much is left for it
 abbrev pub final_tests : Numbers → TenantBook → RestoredUpload → Left → List (Bool × Refusal)
 final_tests n part r left =
-    (not (ends_rightly r.kind (is_reached left.bytes 0) r.expires), Field)
+    (not (ends_rightly n r.kind (is_reached left.bytes 0) r.expires), Field)
     ∷ (nat_lt n.max_size (unwrap_or r.declared n.max_size), TooLong)
     ∷ (not (list_all (λ s. may_be_part part s.origin) r.segments), PartOpen)
     ∷ (nat_le n.uploads (length part.uploads), Uploads)

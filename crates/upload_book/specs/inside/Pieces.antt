@@ -56,14 +56,14 @@ new_stored new id chain expires boxed = record {
   boxed = boxed;
 }
 
--- a final upload of these pieces, as it is kept
-abbrev pub final_of : Bool → NewFinal → List Piece → StoredUpload
-final_of boxed new pieces = record {
+-- a final upload of these pieces and with this end, as it is kept
+abbrev pub final_of : Bool → NewFinal → List Piece → Option ℕ → StoredUpload
+final_of boxed new pieces expires = record {
   kind = Final;
   declared = Some (pieces_len pieces);
   pieces = pieces;
   metadata = new.metadata;
   concat = new.concat;
-  expires = None;
+  expires = expires;
   boxed = boxed;
 }

@@ -82,7 +82,6 @@ pub record MayKeep (s : BlockStore) (t : ℕ) (r : ReadyBack) : Type 0 where
   pub sent : List (ℕ × List ℕ)
   pub had : sent_back (sent_in (part_at s t).uploads) r.upload.segments ≡ Some sent
   pub whole : r.upload.declared ≡ Some (sent_len sent)
-  pub expires : r.upload.expires ≡ None
   pub fits : sum_by (charge_with s.pool.block_size) (plain_in s) + brought_in s.pool.block_size r.upload.segments ≤ size_of s.pool
   pub rooms : AreRoomsFor s.pool.block_size (pieces_of (stored_tenant_at s t)) r.upload.segments r.bodies.items
   pub empty : r.pieces.items ≡ []

@@ -8,7 +8,7 @@ use Rattle.upload_book.specs.declared.refusal.Refusal.{Refusal}
 use Rattle.upload_book.specs.declared.settings.Numbers.{Numbers}
 use Rattle.upload_book.specs.Expiry.{lifetime_end}
 use Rattle.upload_book.specs.FirstChunk.{FirstChunk}
-use Rattle.upload_book.specs.laws.Steps.{charged_after}
+use Rattle.upload_book.specs.laws.Steps.{LastFinishes, charged_after}
 use Rattle.upload_book.specs.Lawful.{IsLawful, IsTenantOf}
 use Rattle.upload_book.specs.NewUpload.{NewUpload}
 use Rattle.upload_book.specs.PlainBook.{PlainBook, answer_of, book_after, tenant_book}
@@ -35,7 +35,7 @@ pub record PiecedCreation : Type 0 where
   -- creation tells, and the tenant's part is the same after it.
   pub accepted :
       (n : Numbers) (part : TenantBook) (tenant charged : ℕ) (new : NewUpload) (first : FirstChunk) (k early now : ℕ)
-      → IsTenantOf n part → early ≤ now → now < lifetime_end n early
+      → IsTenantOf n part → early ≤ now → now < lifetime_end n early → LastFinishes n k (length first.bytes)
       → IsOk (create_answer tenant new first now charged n part)
       → let middle = part_after_create new (begun_with first k) early charged n part in
       let more = charged_after n charged part middle in
@@ -55,7 +55,7 @@ pub record PiecedCreation : Type 0 where
 abbrev pub PiecedCreationOfBook : Type 0
 PiecedCreationOfBook =
     (b : PlainBook) (tenant : ℕ) (new : NewUpload) (first : FirstChunk) (k early now : ℕ) → IsLawful b → tenant < length b.tenants
-    → early ≤ now → now < lifetime_end b.settings.numbers early
+    → early ≤ now → now < lifetime_end b.settings.numbers early → LastFinishes b.settings.numbers k (length first.bytes)
     → IsOk (answer_of b tenant (create_answer tenant new first now b.charged))
     → let middle = book_after b tenant (part_after_create new (begun_with first k) early b.charged) in
     let id = (tenant_book b tenant).next in

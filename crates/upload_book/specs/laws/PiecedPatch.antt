@@ -1,12 +1,12 @@
 -- A PATCH whose bytes come in pieces. Each piece is added to the upload when it has come, and how many bytes are still to
 -- come is known then.
-use Rattle.std.specs.Prelude.{◌≡◌, ◌≤◌, ◌+◌, ℕ, List, [], ◌∷◌, length, take, drop, All, IsOk, None, Result, Ok, Err}
+use Rattle.std.specs.Prelude.{◌≡◌, ◌≤◌, ◌+◌, ℕ, List, [], ◌∷◌, length, sum_by, take, drop, All, IsOk, None, Result, Ok, Err}
 use Rattle.upload_book.specs.Append.{append_answer, part_after_append}
 use Rattle.upload_book.specs.Chunk.{Chunk}
 use Rattle.upload_book.specs.declared.append.Appended.{Appended}
 use Rattle.upload_book.specs.declared.append.Refused.{Refused}
 use Rattle.upload_book.specs.declared.settings.Numbers.{Numbers}
-use Rattle.upload_book.specs.laws.Steps.{charged_after, first_part, later_part}
+use Rattle.upload_book.specs.laws.Steps.{LastFinishes, charged_after, first_part, later_part}
 use Rattle.upload_book.specs.Lawful.{IsTenantOf}
 use Rattle.upload_book.specs.TenantBook.{TenantBook}
 
@@ -18,6 +18,10 @@ first_piece chunk first later = record (first_part chunk first) { more = length 
 pub record Piece : Type 0 where
   pub len : ℕ
   pub now : ℕ
+
+-- how many bytes pieces have together
+abbrev pub ahead_in : List Piece → ℕ
+ahead_in pieces = sum_by (λ (p : Piece). p.len) pieces
 
 -- what a PATCH comes to: its answer, and the tenant's part after it
 pub record Patched : Type 0 where
@@ -50,7 +54,7 @@ in_pieces id chunk (p ∷ pieces) now charged n part =
 pub record PiecedPatch : Type 0 where
   pub accepted :
       (n : Numbers) (part : TenantBook) (id charged : ℕ) (chunk : Chunk) (pieces : List Piece) (now : ℕ) → IsTenantOf n part
-      → All (λ (p : Piece). p.now ≤ now) pieces
+      → All (λ (p : Piece). p.now ≤ now) pieces → LastFinishes n (ahead_in pieces) (length chunk.bytes)
       → IsOk (append_answer id chunk now charged n part)
       → in_pieces id chunk pieces now charged n part ≡ as_one id chunk now charged n part
   pub refused :

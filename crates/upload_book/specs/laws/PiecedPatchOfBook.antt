@@ -5,9 +5,9 @@ use Rattle.upload_book.specs.Chunk.{Chunk}
 use Rattle.upload_book.specs.declared.append.Appended.{Appended}
 use Rattle.upload_book.specs.declared.append.Refused.{Refused}
 use Rattle.upload_book.specs.declared.head_row.Name.{Name}
-use Rattle.upload_book.specs.laws.Steps.{later_part}
+use Rattle.upload_book.specs.laws.Steps.{LastFinishes, later_part}
 use Rattle.upload_book.specs.Lawful.{IsLawful}
-use Rattle.upload_book.specs.laws.PiecedPatch.{Piece, first_piece}
+use Rattle.upload_book.specs.laws.PiecedPatch.{Piece, ahead_in, first_piece}
 use Rattle.upload_book.specs.PlainBook.{PlainBook, answer_of, book_after}
 
 -- what a PATCH of a book comes to: its answer, and the book after it
@@ -41,6 +41,6 @@ book_in_pieces name chunk (p ∷ pieces) now b =
 abbrev pub PiecedPatchOfBook : Type 0
 PiecedPatchOfBook =
     (b : PlainBook) (name : Name) (chunk : Chunk) (pieces : List Piece) (now : ℕ) → IsLawful b → name.tenant < length b.tenants
-    → All (λ (p : Piece). p.now ≤ now) pieces
+    → All (λ (p : Piece). p.now ≤ now) pieces → LastFinishes b.settings.numbers (ahead_in pieces) (length chunk.bytes)
     → IsOk (answer_of b name.tenant (append_answer name.id chunk now b.charged))
     → book_in_pieces name chunk pieces now b ≡ book_as_one name chunk now b

@@ -1,6 +1,6 @@
 -- Laws above the steps.
 use Rattle.std.specs.Result.{result_err}
-use Rattle.std.specs.Prelude.{◌≡◌, ℕ, ◌+◌, ◌-◌, Bool, true, not, List, [], ◌∷◌, ◌++◌, length, is_err, IsOk, IfSome, IfNone, Some, None, Result, Ok, Err}
+use Rattle.std.specs.Prelude.{◌≡◌, ◌<◌, ◌⊎◌, ℕ, ◌+◌, ◌-◌, Bool, true, not, List, [], ◌∷◌, ◌++◌, length, is_err, IsOk, IfSome, IfNone, Some, None, Result, Ok, Err}
 use Rattle.upload_book.specs.Chunk.{Chunk}
 use Rattle.upload_book.specs.FirstChunk.{FirstChunk}
 use Rattle.upload_book.specs.NewUpload.{NewUpload}
@@ -85,12 +85,18 @@ first_part chunk first = record chunk { bytes = first; check = None }
 abbrev pub later_part : Chunk → List ℕ → List ℕ → Chunk
 later_part chunk first later = record chunk { offset = chunk.offset + length first; bytes = later; check = None }
 
+-- Of so many bytes so many are sent ahead, and the rest is some, so that the last bytes finish what all of them do. Where
+-- finished uploads don't end by themselves, all may be sent ahead: it makes no difference then which bytes finish an upload.
+abbrev pub LastFinishes : Numbers → ℕ → ℕ → Type 0
+LastFinishes n ahead all = (n.finished_lifetime ≡ 0) ⊎ (ahead < all)
+
 -- A PATCH that is accepted, with a checksum or without, may be sent in two without one, of which the second goes
 -- on where the first ended: at one moment both are accepted, the last answer is the one to the whole, and so is
 -- the tenant's part after it.
 abbrev pub ResumedPatch : Type 0
 ResumedPatch =
     (n : Numbers) (part : TenantBook) (id charged : ℕ) (chunk : Chunk) (first later : List ℕ) (now : ℕ) → IsTenantOf n part → chunk.bytes ≡ first ++ later
+    → LastFinishes n (length first) (length chunk.bytes)
     → IsOk (append_answer id chunk now charged n part)
     → let middle = part_after_append id (first_part chunk first) now charged n part in
     let more = charged_after n charged part middle in

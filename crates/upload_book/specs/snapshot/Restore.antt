@@ -1,8 +1,8 @@
 -- How a book is put back from a snapshot of it, piece by piece: what a piece is, when it is accepted, and the book after it.
-use Rattle.std.specs.Prelude.{◌≡◌, ℕ, ◌+◌, ◌-◌, ◌<◌, ◌≤◌, Bool, true, false, not, ◌&&◌, ◌||◌, List, [], ◌∷◌, ◌++◌, flat_map, length, map, zip, nat_lt, nat_le, ◌==◌, Option, Some, None, is_some, option_and_then, option_map, unwrap_or, IsTrue, All, if◌then◌else◌, ⊤}
+use Rattle.std.specs.Prelude.{◌≡◌, ℕ, ◌+◌, ◌-◌, ◌<◌, ◌≤◌, Bool, true, false, not, ◌&&◌, ◌||◌, List, [], ◌∷◌, ◌++◌, flat_map, length, map, zip, nat_lt, nat_le, ◌==◌, Option, Some, None, option_and_then, option_map, unwrap_or, IsTrue, All, if◌then◌else◌, ⊤}
 use Rattle.std.specs.List.{list_all}
 use Rattle.std.specs.Option.{option_map_or}
-use Rattle.upload_book.specs.Append.{is_too_long}
+use Rattle.upload_book.specs.Append.{is_final, is_too_long}
 use Rattle.upload_book.specs.Charge.{charge_in, origins}
 use Rattle.upload_book.specs.Concat.{is_partial}
 use Rattle.upload_book.specs.declared.head_row.Kind.{Kind}
@@ -10,6 +10,7 @@ use Rattle.upload_book.specs.declared.head_row.Kind.TheVariants.{Plain, Partial,
 use Rattle.upload_book.specs.declared.refusal.Refusal.{Refusal}
 use Rattle.upload_book.specs.declared.refusal.Refusal.TheVariants.{Field, TooLong, Part, PartOpen, Uploads, Spent, Quota}
 use Rattle.upload_book.specs.declared.settings.Numbers.{Numbers}
+use Rattle.upload_book.specs.Expiry.{may_end}
 use Rattle.upload_book.specs.Lawful.{IsConcatText, is_kept_metadata}
 use Rattle.upload_book.specs.PlainBook.{PlainBook, tenant_book, with_tenant_book}
 use Rattle.upload_book.specs.Refusal.{first_that_holds}
@@ -85,13 +86,9 @@ upload_back r sent = record {
 abbrev pub with_back : TenantBook → ℕ → Upload → TenantBook
 with_back part id u = with_new (with_next part id) u
 
--- whether an upload ends as its kind asks: one of its own until it is complete, a partial one always, and a final one, which
--- is complete, never
-abbrev pub ends_rightly : Kind → Bool → Option ℕ → Bool
-ends_rightly Plain true expires = not (is_some expires)
-ends_rightly Plain false expires = is_some expires
-ends_rightly Partial complete expires = is_some expires
-ends_rightly Final complete expires = complete && not (is_some expires)
+-- whether an upload may have its end, and is complete where it is a final one
+abbrev pub ends_rightly : Numbers → Kind → Bool → Option ℕ → Bool
+ends_rightly n kind complete expires = may_end n kind complete expires && (complete || not (is_final kind))
 
 -- what stands under the id of a part of a final upload, if anything does, is a partial upload with all of its bytes
 abbrev pub may_be_part : TenantBook → ℕ → Bool
@@ -102,7 +99,7 @@ may_be_part part id = option_map_or (λ (u : Upload). is_partial u.kind && is_co
 abbrev pub restore_tests : Numbers → ℕ → TenantBook → ℕ → Upload → List (Bool × Refusal)
 restore_tests n charged part id u =
     let after = charge_in n (with_back part id u) in
-    (not (ends_rightly u.kind (is_complete u) u.expires), Field)
+    (not (ends_rightly n u.kind (is_complete u) u.expires), Field)
     ∷ (is_too_long n (unwrap_or u.declared n.max_size) (offset_of u), TooLong)
     ∷ (not (list_all (may_be_part part) u.parts), PartOpen)
     ∷ (nat_le n.uploads (length part.uploads), Uploads)

@@ -204,10 +204,29 @@ impl PlainBook {
         }
     }
 
-    // When an upload expires that is touched now.
-    fn touched(&self, kind: Kind, done: bool, end: Option<u64>, now: Moment) -> Option<u64> {
-        if kind == Kind::Plain && done {
+    // When an upload expires that is finished now.
+    fn finished(&self, now: Moment) -> Option<u64> {
+        let seconds = self.numbers.finished_lifetime;
+        if seconds == 0 {
             return None;
+        }
+        Some(now.secs().saturating_add(seconds).min(253_402_300_799))
+    }
+
+    // When an upload expires that is touched now, which was done before or is now.
+    fn touched(
+        &self,
+        kind: Kind,
+        was_done: bool,
+        done: bool,
+        end: Option<u64>,
+        now: Moment,
+    ) -> Option<u64> {
+        if kind == Kind::Plain && was_done {
+            return end;
+        }
+        if kind == Kind::Plain && done {
+            return self.finished(now);
         }
         let later = now.secs().saturating_add(self.numbers.lifetime);
         end.max(Some(later.min(253_402_300_799)))
@@ -267,7 +286,7 @@ impl PlainBook {
             kind,
             declared: length,
             segments: vec![in self.alloc; segment].expect(rt, "memory"),
-            expires: self.touched(kind, length == Some(len), None, now),
+            expires: self.touched(kind, false, length == Some(len), None, now),
         };
         self.add(rt, upload, self.added(0, len))
     }
@@ -309,7 +328,7 @@ impl PlainBook {
             kind: Kind::Final,
             declared: Some(len),
             segments,
-            expires: None,
+            expires: self.finished(now),
         };
         self.add(rt, upload, 0)
     }
@@ -368,7 +387,8 @@ impl PlainBook {
         let before = self.charge(name.tenant);
         let offset = at.saturating_add(chunk.bytes.len() as u64);
         let length = declared.or(chunk.length);
-        let expires = self.touched(kind, length == Some(offset), expires, now);
+        let was_done = declared == Some(at);
+        let expires = self.touched(kind, was_done, length == Some(offset), expires, now);
         for upload in self.uploads.iter_mut() {
             if upload.name == *name {
                 upload.append(rt, chunk.bytes.as_slice(), length, expires);

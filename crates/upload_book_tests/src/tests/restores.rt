@@ -493,6 +493,21 @@ fn finals_that_are_not_put_back(rt: HostRuntime) {
     run_behind_parts(&rt, rt.alloc(), NUMBERS, &REFUSED_FINALS);
 }
 
+// Where finished uploads end by themselves, one may have an end, and one may be of before that.
+static FINISHED: [Step; 6] = [
+    (Own(4, false, Some(1), b"x", None), None),
+    (Joined(5, 10, (1, None), (1, None), None), None),
+    (Joined(6, 10, (1, None), (1, None), Some(1100)), None),
+    (Own(7, false, Some(1), b"x", Some(1100)), None),
+    (Own(8, false, Some(2), b"x", None), Some(Refusal::Field)),
+    (Own(8, false, Some(2), b"x", Some(4600)), None),
+];
+
+#[test]
+fn finished_uploads_are_put_back(rt: HostRuntime) {
+    run_behind_parts(&rt, rt.alloc(), numbers!(finished_lifetime: 100), &FINISHED);
+}
+
 // There may be two uploads.
 static TWO_UPLOADS: [Step; 1] = [(
     Joined(4, 10, (1, None), (1, None), None),

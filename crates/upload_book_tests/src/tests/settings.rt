@@ -31,12 +31,13 @@ macro_rules! faults {
 }
 
 // What is out of range, and where two numbers are, the first of them.
-static FAULTS_OF_NUMBERS: [(Numbers, SettingsFault); 9] = faults! {
+static FAULTS_OF_NUMBERS: [(Numbers, SettingsFault); 10] = faults! {
     blocks: 0 => Blocks;
     blocks: 1_048_577, block_size: 0 => Blocks;
     block_size: 65_537, lifetime: 0 => BlockSize;
     blocks: 1_048_576, block_size: 1025 => PoolBytes;
     lifetime: 31_536_001 => Lifetime;
+    finished_lifetime: 31_536_001, max_size: 0 => FinishedLifetime;
     max_size: 16_777_217 => MaxSize;
     uploads: 65 => Uploads;
     last_id: 0 => LastId;
@@ -70,6 +71,7 @@ const GREATEST: Numbers = Numbers {
     blocks: 1_048_576,
     block_size: 1_024,
     lifetime: 31_536_000,
+    finished_lifetime: 31_536_000,
     max_size: 16_777_216,
     uploads: 64,
     last_id: 18_446_744_073_709_551_614,
@@ -88,6 +90,7 @@ static ACCEPTED: [Numbers; 3] = [
         blocks: 1,
         block_size: 1,
         lifetime: 1,
+        finished_lifetime: 0,
         max_size: 1,
         uploads: 1,
         last_id: 1,

@@ -1,12 +1,12 @@
 //! Sweeps of single uploads, and before, between and after the ends of partial uploads and of final ones over them.
 
-use crate::tests::books::{ACME, BETA, create, moment};
+use crate::tests::books::{ACME, BETA, create, moment, numbers};
 use crate::tests::joins::{JOINED, TWO_JOINED};
 use crate::tests::steps::Call::{
-    Begin, Delete, Expiries, Get, Head, Join, Part, Partial, Patch, Post, Sweep,
+    Begin, Delete, Expiries, Get, Head, Join, Part, Partial, Patch, Post, PostWith, Sweep,
 };
 use crate::tests::steps::Told::{
-    Appended, Begun, Bytes, Created, Expire, Refused, Removed, Row, Swept,
+    Appended, Begun, Bytes, Created, Expire, Refused, RefusedPatch, Removed, Row, Swept,
 };
 use crate::tests::steps::{Step, run, run_behind, steps};
 use std::process::Abort;
@@ -101,6 +101,46 @@ fn sweeps_in_each_order(rt: HostRuntime) {
     run_behind(&rt, rt.alloc(), NUMBERS, &JOINED, &ENDED_BEFORE_ITS_FINAL);
     run_behind(&rt, rt.alloc(), NUMBERS, &TWO_JOINED, &SWEPT_BETWEEN_FINALS);
     run(&rt, rt.alloc(), NUMBERS, &SWEPT_AMONG_OTHERS);
+}
+
+// Finished uploads stay for 100 seconds: one that a PATCH finishes, earlier than it would have expired, and one that its creation
+// finishes. A PATCH without bytes moves no such end.
+static FINISHED_AND_SWEPT: [Step; 11] = steps! {
+    1000 ACME PostWith(Some(5), b"abcde") => Created(1, Some(1100)), [2, 0, 10, 2, 0];
+    1000 ACME Begin(Some(2), b"f") => Begun(2, Some(4600), 1, Some(4600)), [3, 0, 9, 3, 0];
+    1060 ACME Patch(2, 1, b"g") => Appended(2, Some(1160));
+    1070 ACME Patch(2, 2, b"") => Appended(2, Some(1160));
+    1070 ACME Patch(1, 5, b"x") => RefusedPatch(Refusal::TooLong, Some(1100));
+    1080 ACME Post(Some(0)) => Created(3, Some(1180));
+    1099 ACME Head(1) => Row(Kind::Plain, 5, Some(5), Some(1100));
+    1100 ACME Get(1) => Refused(Refusal::Gone);
+    1159 BETA Expiries => Expire(&[[1100, 0, 1], [1160, 0, 2], [1180, 0, 3]]);
+    1160 BETA Sweep => Swept(2, 3, 3), [0, 0, 12, 3, 3];
+    1180 BETA Sweep => Swept(1, 0, 0);
+};
+
+// A final upload ends by itself, and its part as before: the blocks go with the last of both.
+static FINISHED_FINAL: [Step; 6] = steps! {
+    1080 ACME Part(Some(5), b"vwxyz") => Begun(1, Some(4680), 5, Some(4680)), [2, 0, 10, 2, 0];
+    1090 ACME Join(&[Some(1)]) => Created(2, Some(1190));
+    1189 ACME Get(2) => Bytes(b"vwxyz");
+    1190 ACME Sweep => Swept(1, 0, 0);
+    1190 ACME Head(1) => Row(Kind::Partial, 5, Some(5), Some(4680));
+    4680 ACME Sweep => Swept(1, 2, 2), [0, 0, 12, 2, 2];
+};
+
+// No end is past the last second.
+static FINISHED_LAST: [Step; 2] = steps! {
+    253_402_300_700 ACME PostWith(Some(1), b"a") => Created(1, Some(253_402_300_799)), [1, 0, 11, 1, 0];
+    253_402_300_799 ACME Sweep => Swept(1, 1, 1), [0, 0, 12, 1, 1];
+};
+
+#[test]
+fn finished_uploads_end(rt: HostRuntime) {
+    let numbers = numbers!(finished_lifetime: 100);
+    run(&rt, rt.alloc(), numbers, &FINISHED_AND_SWEPT);
+    run(&rt, rt.alloc(), numbers, &FINISHED_FINAL);
+    run(&rt, rt.alloc(), numbers, &FINISHED_LAST);
 }
 
 // Each upload that expires is listed once: by when, and where that is the same by its id, whatever their order before.

@@ -11,6 +11,7 @@ const NUMBERS: Numbers = Numbers {
     blocks: 8,
     block_size: 4,
     lifetime: 3600,
+    finished_lifetime: 0,
     max_size: 64,
     uploads: 4,
     last_id: 99,

@@ -21,6 +21,7 @@ pub(crate) fn settings_of(rt: &impl Abort, block_size: u64) -> Settings {
         blocks: 12,
         block_size,
         lifetime: 3600,
+        finished_lifetime: 0,
         max_size: 64,
         uploads: 4,
         last_id: u64::MAX - 1,

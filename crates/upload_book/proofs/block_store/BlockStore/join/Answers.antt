@@ -61,7 +61,7 @@ after c = record (c.index_mut-stored_tenant.result.now) {
   spare = c.placed-texts.new.spare;
 }
 
-joined : (c : goal.After-self-1) → IsJoined c.self.inside c.index_mut-stored_tenant.result.now (after c) c.args.ready.new c.hold_each.new.pieces.items
+joined : (c : goal.After-self-1) → IsJoined c.self.inside c.index_mut-stored_tenant.result.now (after c) c.args.ready.new c.hold_each.new.pieces.items c.args.ready.expires
 unfolding after
 joined c = record {
   quota = refl;
@@ -78,19 +78,19 @@ joined c = record {
 pub invariant_of-self : goal.invariant_of-self
 unfolding after
 invariant_of-self c =
-    IsKept-joined c.self.inside c.args.tenant c.index_mut-stored_tenant.result.now (after c) c.args.ready.new c.args.ready.now c.hold_each.new.pieces.items c.hold_each.new.pool c.self.invariant (joins c) (joined c)
+    IsKept-joined c.self.inside c.args.tenant c.index_mut-stored_tenant.result.now (after c) c.args.ready.new c.args.ready.now c.hold_each.new.pieces.items c.args.ready.expires c.hold_each.new.pool c.self.invariant (joins c) (joined c)
 
 pub returns-clause-plain : goal.returns-clause-plain
 unfolding after
 returns-clause-plain c =
-    rw (← c.self.view_is) (plain-joined c.self.inside c.args.tenant c.index_mut-stored_tenant.result.now (after c) c.args.ready.new c.args.ready.now c.hold_each.new.pieces.items c.hold_each.new.pool c.self.invariant (joins c) (joined c))
+    rw (← c.self.view_is) (plain-joined c.self.inside c.args.tenant c.index_mut-stored_tenant.result.now (after c) c.args.ready.new c.args.ready.now c.hold_each.new.pieces.items c.args.ready.expires c.hold_each.new.pool c.self.invariant (joins c) (joined c))
 
 pub returns-clause-joins : goal.returns-clause-joins
 unfolding after
 returns-clause-joins c =
-    rw (← c.self.view_is) (Joins-joined c.self.inside c.args.tenant c.index_mut-stored_tenant.result.now (after c) c.args.ready.new c.args.ready.now c.hold_each.new.pieces.items c.hold_each.new.pool c.self.invariant (joins c) (joined c))
+    rw (← c.self.view_is) (Joins-joined c.self.inside c.args.tenant c.index_mut-stored_tenant.result.now (after c) c.args.ready.new c.args.ready.now c.hold_each.new.pieces.items c.args.ready.expires c.hold_each.new.pool c.self.invariant (joins c) (joined c))
 
 pub returns-clause-charge : goal.returns-clause-charge
 unfolding after
 returns-clause-charge c =
-    rw (← c.self.view_is) (charge-joined c.self.inside c.args.tenant c.index_mut-stored_tenant.result.now (after c) c.args.ready.new c.args.ready.now c.hold_each.new.pieces.items c.hold_each.new.pool c.self.invariant (joins c) (joined c))
+    rw (← c.self.view_is) (charge-joined c.self.inside c.args.tenant c.index_mut-stored_tenant.result.now (after c) c.args.ready.new c.args.ready.now c.hold_each.new.pieces.items c.args.ready.expires c.hold_each.new.pool c.self.invariant (joins c) (joined c))

@@ -1,4 +1,4 @@
-use Rattle.std.proofs.Common.{◌≡◌, ℕ, ◌+◌, ◌-◌, ◌<◌, List, [], ◌∷◌, ◌++◌, length, get_or, Option, unwrap_or, refl, sym, ap, ◌∙◌, subst, arith}
+use Rattle.std.proofs.Common.{◌≡◌, ℕ, ◌+◌, ◌-◌, ◌<◌, List, [], ◌∷◌, ◌++◌, length, get_or, Option, unwrap_or, refl, sym, ap, ap₂, ◌∙◌, subst, arith}
 use Rattle.std.proofs.lemmas.List.{get_or_read}
 use Rattle.block_pool.specs.Blocks.{Blocks, free_in}
 use Rattle.upload_book.specs.BlockStore.{BlockStore}
@@ -124,11 +124,11 @@ free : (c : goal.After-self-1) → c.from-taken.result + free_in c.bring_each.ne
 free c = free_is (read c) c.from-taken.result (taken_is (read c) c.free-before.result c.free.result c.from-taken.result c.free-before.ensures c.free.ensures c.from-taken.ensures)
 
 -- it has one more,
-uploads : (c : goal.After-self-1) → c.push_reserved.new.self.items ≡ c.index_mut-stored_tenant.result.now.uploads.items ++ record { id = c.index_mut-stored_tenant.result.now.next; kept = final_of (is_boxed c.placed-texts.result) (final_named c.args.ready.upload) c.bring_each.new.pieces.items } ∷ []
+uploads : (c : goal.After-self-1) → c.push_reserved.new.self.items ≡ c.index_mut-stored_tenant.result.now.uploads.items ++ record { id = c.index_mut-stored_tenant.result.now.next; kept = final_of (is_boxed c.placed-texts.result) (final_named c.args.ready.upload) c.bring_each.new.pieces.items c.args.ready.upload.expires } ∷ []
 uploads c =
     let id = c.index_mut-stored_tenant.result.now.next in
     let pieces : List Piece = c.bring_each.new.pieces.items in
-    c.push_reserved.ensures.items ∙ ap (λ (e : Entry StoredUpload). c.index_mut-stored_tenant.result.now.uploads.items ++ e ∷ []) (c.joined-upload.ensures ∙ ap (λ (new : NewFinal). record { id = id; kept = final_of (is_boxed c.placed-texts.result) new pieces }) c.as_final.ensures)
+    c.push_reserved.ensures.items ∙ ap (λ (e : Entry StoredUpload). c.index_mut-stored_tenant.result.now.uploads.items ++ e ∷ []) (c.joined-upload.ensures ∙ ap₂ (λ (new : NewFinal) (expires : Option ℕ). record { id = id; kept = final_of (is_boxed c.placed-texts.result) new pieces expires }) c.as_final.ensures (ap (λ (u : RestoredUpload). u.expires) c.upload.view_is))
 
 -- and a spare box less
 room : (c : goal.After-self-1) → HasUploadRoom c.self.inside.room (after c)

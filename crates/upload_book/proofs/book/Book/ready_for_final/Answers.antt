@@ -9,6 +9,7 @@ use Rattle.upload_book.specs.inside.Texts.{IsTextsFor}
 use Rattle.upload_book.specs.NewFinal.{NewFinal}
 use Rattle.upload_book.specs.PlainBook.{tenant_book}
 use Rattle.upload_book.specs.Concat.{joined_len}
+use Rattle.upload_book.specs.Expiry.{finished_end}
 use Rattle.upload_book.specs.declared.ready.ReadyFinal.{ReadyFinal}
 use Rattle.upload_book.specs.Ready.{IsReadyForFinal}
 use Rattle.upload_book.specs.BlockStore.{pieces_named, rows_at}
@@ -59,7 +60,7 @@ returns-in-Ok-with_capacity-clause-ready c =
     let s = SeesParts-read b c.args.self.now c.args.tenant c.from-place.result c.numbers-numbers.result.now c.new.inside.parts.now c.args.new c.args.now c.parts_seen-seen.result
     c.self.invariant c.self.view_is c.requires.tenant_there c.from-place.ensures c.numbers-numbers.ensures.value (ap (λ (new : NewFinal). new.parts) c.new.view_is) c.parts_seen-seen.ensures.there c.parts_seen-seen.ensures.complete c.parts_seen-seen.ensures.len in
     let none = refusal-told s c.concat_refusal.result c.concat_refusal.ensures ∙ c.in_default.is in
-    let ready : ReadyFinal = record { tenant = c.args.tenant; new = c.args.new; now = c.args.now; len = c.parts_seen-seen.result.len; unheld = c.in-Ok.unheld; pieces = c.in-Ok-with_capacity.pieces; texts = c.in-Ok-texts_ahead.texts } in
+    let ready : ReadyFinal = record { tenant = c.args.tenant; new = c.args.new; now = c.args.now; len = c.parts_seen-seen.result.len; expires = c.finished_end.result; unheld = c.in-Ok.unheld; pieces = c.in-Ok-with_capacity.pieces; texts = c.in-Ok-texts_ahead.texts } in
     let named : c.new.inside.parts.now ≡ c.args.new.parts = ap (λ (new : NewFinal). new.parts) c.new.view_is in
     subst (λ (b : StoredBook). IsReadyForFinal b ready) c.self.view_is (record {
       there = omega (arith, c.requires.tenant_there, ap (λ (b : StoredBook). length b.settings.tenants) c.self.view_is);
@@ -69,6 +70,7 @@ returns-in-Ok-with_capacity-clause-ready c =
       concat = c.requires.concat;
       accepted = none;
       len = len-told s none ∙ ap (λ t. joined_len (rows_at b.store t c.args.new.parts c.args.now)) c.from-place.ensures;
+      expires = c.finished_end.ensures ∙ ap (λ n. finished_end n c.args.now) c.numbers-numbers.ensures.value;
       listed = record {
         pieces = c.in-Ok.ensures.pieces ∙ ap₂ (λ (t : ℕ) (named : List (Option ℕ)). map segment_of (pieces_named b.store t named c.args.now)) c.from-place.ensures named;
         few = omega (arith, c.in-Ok.ensures.few, ap (length {A = Option ℕ}) named);
