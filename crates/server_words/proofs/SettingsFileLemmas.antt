@@ -1,5 +1,5 @@
 -- The text of settings, and the lines of a text.
-use Rattle.std.proofs.Common.{◌≡◌, ◌≢◌, ℕ, zero, suc, ◌+◌, ◌<◌, List, [], ◌∷◌, ◌++◌, get_or, length, map, take, Option, Some, None, inl, inr, refl, sym, subst, ap, ap₂, ◌∙◌, ◌==◌, arith, add-one, append_assoc, length-append, length-take-le}
+use Rattle.std.proofs.Common.{◌≡◌, ◌≢◌, ℕ, zero, suc, ◌+◌, ◌<◌, List, [], ◌∷◌, ◌++◌, get_or, length, map, take, Option, Some, None, Result, Ok, Err, OnOk, inl, inr, refl, sym, subst, ap, ap₂, ◌∙◌, ◌==◌, arith, add-one, append_assoc, length-append, length-take-le}
 use Rattle.std.specs.Prelude.{codes, decimal, slice_get}
 use Rattle.std.specs.List.{AllByRecursion, after_first, before_first, position_or_len}
 use Rattle.std.specs.Str.{byte}
@@ -7,6 +7,7 @@ use Rattle.std.proofs.lemmas.Grind.{flat_map-append}
 use Rattle.std.proofs.lemmas.List.{append-nil, get_or-take}
 use Rattle.std.proofs.lemmas.List.Sums.{fails_before_first, passes_at_first, position_or_len_is, split_at_first}
 use Rattle.std.proofs.lemmas.Bool.{eqb-true}
+use Rattle.std.proofs.lemmas.Bool.Decides.{eqb_tells}
 use Rattle.clap.specs.Kinds.{HasKind, IsAmong, Kinds}
 use Rattle.clap.specs.Values.{kind_of}
 use Rattle.clap.specs.Words.{Text}
@@ -46,15 +47,6 @@ text-more front xs place name quota text more named paid is added =
     regroup : (a b c d e : List ℕ) → a ++ b ++ c ++ d ++ e ≡ a ++ (b ++ c ++ d ++ e)
     regroup a b c d e = simp append_assoc
 
--- the text of the numbers behind that of the lifetime of finished uploads
-pub number-lines : (n : Numbers) (text t0 t1 t2 t3 t4 t5 t6 : List ℕ) → t0 ≡ text ++ lines (finished_words n.finished_lifetime) → t1 ≡ t0 ++ codes "--blocks\n" ++ decimal n.blocks ++ codes "\n" → t2 ≡ t1 ++ codes "--block-size\n" ++ decimal n.block_size ++ codes "\n"
-    → t3 ≡ t2 ++ codes "--lifetime\n" ++ decimal n.lifetime ++ codes "\n" → t4 ≡ t3 ++ codes "--max-size\n" ++ decimal n.max_size ++ codes "\n" → t5 ≡ t4 ++ codes "--uploads\n" ++ decimal n.uploads ++ codes "\n"
-    → t6 ≡ t5 ++ codes "--\n" → t6 ≡ text ++ lines (number_words n)
-number-lines n text t0 t1 t2 t3 t4 t5 t6 e0 e1 e2 e3 e4 e5 e6 =
-    let finished = finished_words n.finished_lifetime in
-    size-lines n t0 t1 t2 t3 t4 t5 t6 e1 e2 e3 e4 e5 e6 ∙ ap (λ (t : List ℕ). t ++ lines (size_words n)) e0
-    ∙ append_assoc text (lines finished) (lines (size_words n)) ∙ ap (λ (t : List ℕ). text ++ t) (sym (flat_map-append (λ (w : List ℕ). w ++ codes "\n") finished (size_words n)))
-
 -- the text of the others
 size-lines : (n : Numbers) (t0 t1 t2 t3 t4 t5 t6 : List ℕ) → t1 ≡ t0 ++ codes "--blocks\n" ++ decimal n.blocks ++ codes "\n" → t2 ≡ t1 ++ codes "--block-size\n" ++ decimal n.block_size ++ codes "\n"
     → t3 ≡ t2 ++ codes "--lifetime\n" ++ decimal n.lifetime ++ codes "\n" → t4 ≡ t3 ++ codes "--max-size\n" ++ decimal n.max_size ++ codes "\n" → t5 ≡ t4 ++ codes "--uploads\n" ++ decimal n.uploads ++ codes "\n"
@@ -66,6 +58,27 @@ size-lines n t0 t1 t2 t3 t4 t5 t6 e1 e2 e3 e4 e5 e6 =
     all : (t0 t1 t2 t3 t4 t5 t6 a1 d1 a2 d2 a3 d3 a4 d4 a5 d5 z e : List ℕ) → t1 ≡ t0 ++ a1 ++ d1 ++ e → t2 ≡ t1 ++ a2 ++ d2 ++ e → t3 ≡ t2 ++ a3 ++ d3 ++ e → t4 ≡ t3 ++ a4 ++ d4 ++ e → t5 ≡ t4 ++ a5 ++ d5 ++ e → t6 ≡ t5 ++ z
         → t6 ≡ t0 ++ (a1 ++ ((d1 ++ e) ++ (a2 ++ ((d2 ++ e) ++ (a3 ++ ((d3 ++ e) ++ (a4 ++ ((d4 ++ e) ++ (a5 ++ ((d5 ++ e) ++ z))))))))))
     all t0 t1 t2 t3 t4 t5 t6 a1 d1 a2 d2 a3 d3 a4 d4 a5 d5 z e e1 e2 e3 e4 e5 e6 = rw (e6, e5, e4, e3, e2, e1) (simp append_assoc)
+
+-- the text of the lifetime of finished uploads, where it is told
+pub finished-lines : {E : Type 0} (result : Result (Unit {0}) E) (seconds : ℕ) (before after : List ℕ) → seconds ≢ 0
+    → OnOk result (after ≡ before ++ codes "--finished-lifetime\n" ++ decimal seconds ++ codes "\n") → OnOk result (after ≡ before ++ lines (finished_words seconds))
+finished-lines (Err fault) seconds before after some added = tt
+finished-lines (Ok told) seconds before after some added = elim (eqb_tells seconds 0) [
+  | inl none ↦ absurd (some none.1)
+  | inr more ↦ rw more.0 (added ∙ regroup before (codes "--finished-lifetime\n") (decimal seconds) (codes "\n"))
+]
+  where
+    regroup : (b a d e : List ℕ) → b ++ a ++ d ++ e ≡ b ++ (a ++ ((d ++ e) ++ []))
+    regroup b a d e = append_assoc (b ++ a) d e ∙ append_assoc b a (d ++ e) ∙ ap (λ (t : List ℕ). b ++ (a ++ t)) (sym (append-nil (d ++ e)))
+
+-- the text of the numbers behind that of the lifetime of finished uploads
+pub number-lines : (n : Numbers) (text t0 t1 t2 t3 t4 t5 t6 : List ℕ) → t0 ≡ text ++ lines (finished_words n.finished_lifetime) → t1 ≡ t0 ++ codes "--blocks\n" ++ decimal n.blocks ++ codes "\n" → t2 ≡ t1 ++ codes "--block-size\n" ++ decimal n.block_size ++ codes "\n"
+    → t3 ≡ t2 ++ codes "--lifetime\n" ++ decimal n.lifetime ++ codes "\n" → t4 ≡ t3 ++ codes "--max-size\n" ++ decimal n.max_size ++ codes "\n" → t5 ≡ t4 ++ codes "--uploads\n" ++ decimal n.uploads ++ codes "\n"
+    → t6 ≡ t5 ++ codes "--\n" → t6 ≡ text ++ lines (number_words n)
+number-lines n text t0 t1 t2 t3 t4 t5 t6 e0 e1 e2 e3 e4 e5 e6 =
+    let finished = finished_words n.finished_lifetime in
+    size-lines n t0 t1 t2 t3 t4 t5 t6 e1 e2 e3 e4 e5 e6 ∙ ap (λ (t : List ℕ). t ++ lines (size_words n)) e0
+    ∙ append_assoc text (lines finished) (lines (size_words n)) ∙ ap (λ (t : List ℕ). text ++ t) (sym (flat_map-append (λ (w : List ℕ). w ++ codes "\n") finished (size_words n)))
 
 -- the words so far are those before, and the lines of a text up to a rest
 pub record LinesSoFar (before words : List Text) (text rest : List ℕ) : Type 0 where
