@@ -13,7 +13,8 @@ use upload_book::{
 /// What readers read: the heads of the book, and the events of the log whose changes were made to them. There are two
 /// copies: readers read one while the writer changes the other. Each knows up to which event what it tells of an upload last
 /// changed, so that a look rests on no event that came later. And each has room for the texts of the upload that is created
-/// next: they come in pieces, so that a note is small, and go from there to their row. Texts that are shared come with the note.
+/// next: they come in pieces, so that a note is small, and go from there to their row. Texts that are shared come with the
+/// note.
 #[derive(Drop)]
 pub struct BoardCopy {
     pub(crate) table: HeadTable,

@@ -145,8 +145,9 @@ impl HeadTable {
     /// is no room: a line that may follow on these heads always has room ([`crate::laws::lines_have_room`]).
     ///
     /// It takes no memory where a tenant may have at most 64 uploads: the texts of a new one are copied to a box then. Above 64
-    /// its row owns the texts that the note shares; texts that are only lent are copied to memory of their own. The error, with
-    /// which nothing changes, is that there was none, or that there are as many owners as can be counted, which no run comes to.
+    /// its row owns the texts that the note shares; texts that are only lent are copied to memory of their own. The error,
+    /// with which nothing changes, is that there was none, or that there are as many owners as can be counted, which no run
+    /// comes to.
     pub fn apply(&mut self, note: &HeadNote) -> Result<(), AllocError>
         ensures applied { OnOk result (self.new ≡ heads_noted self.old note.now) }
         ensures refused { OnErr result (self.new ≡ self.old) }

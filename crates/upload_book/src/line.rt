@@ -51,9 +51,9 @@ impl<'a> Ready<'a> {
     }
 
     /// What the change will do to the heads of the book, which is ready for it, as small as it can be told: the texts of
-    /// a new upload are lent, and a PATCH tells its numbers alone. It takes no memory and changes nothing, so it can be
-    /// told before [`Book::commit`]. On the heads of the book it stands for the line that [`Ready::line`] tells. The
-    /// accounts cost what they cost there.
+    /// a new upload are lent, to be shared where there is no box for them, and a PATCH tells its numbers alone. It takes no
+    /// memory and changes nothing, so it can be told before [`Book::commit`]. On the heads of the book it stands for the line
+    /// that [`Ready::line`] tells. The accounts cost what they cost there.
     pub fn note(&self, book: &Book) -> HeadNote<'_>
         requires { IsReady book.now self.now }
         ensures { IsNoteOf (plain_of book.now) (change_in self.now) (moment_in self.now) result }

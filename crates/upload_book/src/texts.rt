@@ -80,8 +80,8 @@ impl SharedTexts {
         })
     }
 
-    /// The same texts, with one more owner. It takes no memory. The error is that there are as many owners as can be counted, 2^63 - 1,
-    /// which no run has.
+    /// The same texts, with one more owner. It takes no memory. The error is that there are as many owners as can be counted,
+    /// 2^63 - 1, which no run comes to.
     pub fn again(&self) -> Result<SharedTexts, AllocError>
         ensures metadata { IfOk result (λ t. shared_metadata t ≡ shared_metadata self.now) }
         ensures concat { IfOk result (λ t. shared_concat t ≡ shared_concat self.now) }
