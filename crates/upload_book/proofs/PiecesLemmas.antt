@@ -1,5 +1,5 @@
 -- A PATCH that comes in pieces.
-use Rattle.std.proofs.Common.{◌≡◌, ℕ, ◌+◌, ◌≤◌, Bool, true, false, true≢false, List, [], ◌∷◌, ◌++◌, length, take, drop, Option, Some, None, Result, Ok, Err, refl, sym, ap, subst, ◌∙◌, arith, append_assoc, length-append, inl, inr, length-take, length-drop}
+use Rattle.std.proofs.Common.{◌≡◌, ℕ, ◌+◌, ◌≤◌, true, false, true≢false, List, [], ◌∷◌, ◌++◌, length, take, drop, Option, Some, None, Result, Ok, Err, refl, sym, ap, subst, ◌∙◌, arith, length-append, inl, inr, length-take, length-drop}
 use Rattle.std.specs.List.{All}
 use Rattle.std.specs.Result.{IsOk}
 use Rattle.std.proofs.lemmas.Bool.Decides.{nat_tests}
@@ -8,14 +8,12 @@ use Rattle.std.proofs.lemmas.List.Sums.{sum_by-cons}
 use Rattle.std.proofs.lemmas.List.Elements.{All-head, All-tail}
 use Rattle.upload_book.specs.Account.{account_in, account_with, blocks_added}
 use Rattle.upload_book.specs.declared.board_line.Account.{Account}
-use Rattle.upload_book.specs.Append.{or_else, append_refusal, append_answer, part_after_append, telling, told, upload_with}
+use Rattle.upload_book.specs.Append.{append_refusal, append_answer, part_after_append, telling, told, upload_with}
 use Rattle.upload_book.specs.Charge.{charge_in}
 use Rattle.upload_book.specs.Chunk.{Chunk, count_all}
 use Rattle.upload_book.specs.declared.append.Appended.{Appended}
 use Rattle.upload_book.specs.declared.append.Refused.{Refused}
 use Rattle.upload_book.specs.declared.head_row.HeadRow.{HeadRow}
-use Rattle.upload_book.specs.declared.head_row.Kind.{Kind}
-use Rattle.upload_book.specs.declared.head_row.Kind.TheVariants.{Plain, Partial, Final}
 use Rattle.upload_book.specs.declared.refusal.Refusal.{Refusal}
 use Rattle.upload_book.specs.declared.settings.Numbers.{Numbers}
 use Rattle.upload_book.specs.Expiry.{has_expired}
@@ -24,12 +22,12 @@ use Rattle.upload_book.specs.Lawful.{IsTenantOf, IsUploadOf}
 use Rattle.upload_book.specs.laws.PiecedPatch.{Patched, Piece, PiecedPatch, ahead_in, as_one, first_piece, goes_on, in_pieces}
 use Rattle.upload_book.specs.Refusal.{unless}
 use Rattle.upload_book.specs.TenantBook.{TenantBook, kept_in, visible_upload, with_changed}
-use Rattle.upload_book.specs.Upload.{Upload, content_of, offset_of, is_reached, head_row_of}
+use Rattle.upload_book.specs.Upload.{Upload, offset_of, head_row_of}
 use Rattle.upload_book.proofs.Charge.ChargeLemmas.{charge-append}
 use Rattle.upload_book.proofs.LawsLemmas.{Accepts, Accepts-from_ok, IsAppendable-first, IsAppendable-later, accounts_follow, answer_accepted, answer_of_upload, answer_where, append_answer-where, end_of, fresh_append, part_accepted, upload_with-two}
 use Rattle.upload_book.proofs.Lawful.AppendLemmas.{part_after_append-refused}
 use Rattle.upload_book.proofs.Lawful.Entries.{kept_in-All, visible_in-changed, visible_in-fresh, visible_in-Ok, with_kept-twice}
-use Rattle.upload_book.proofs.Lawful.LawfulAppend.{IsAppendable, IsAppendable-from_none, IsTenantOf-append, append_refusal-none, content_of-append, fewer_blocks, offset_of-append}
+use Rattle.upload_book.proofs.Lawful.LawfulAppend.{IsAppendable, IsAppendable-from_none, IsTenantOf-append, append_refusal-none, fewer_blocks}
 
 -- ---- moments
 

@@ -1,4 +1,4 @@
-ghost use Rattle.std.specs.Prelude.{◌≡◌, ◌<◌, ℕ, None, Some, IsTrue, length};
+ghost use Rattle.std.specs.Prelude.{◌≡◌, ◌<◌, ℕ, Some, IsTrue, length};
 ghost use Rattle.upload_book.specs.Book.{plain_of};
 ghost use Rattle.upload_book.specs.Change.{book_after_change, head_change, line_of};
 ghost use Rattle.upload_book.specs.Create.{new_kind};

@@ -148,11 +148,11 @@ impl Book {
             ≡ book_after_piece (plain_of self.old) (piece.Upload ready.entry.tenant ready.entry.upload) }
     {
         let place = usize::from(ready.tenant);
-        let created = ready.upload.created(ready.tenant);
+        let back = ready.upload.created(ready.tenant);
         // the numbers tell that what may be charged in all is a number
         let _in_range = self.settings.numbers();
         self.charged += self.store.put_back(place, ready);
-        self.expiries.set_end(created.name, None, created.expires);
+        self.expiries.set_end(back.name, None, back.expires);
     }
 
     // Finds whether a tenant's next id is put back. It changes nothing.

@@ -118,14 +118,6 @@ module _ (ends : Ends) (x : Expiring) (old new : List Expiring) (is : AreExpirin
     );
   }
 
--- the end that a name has in place of itself
-pub AreExpiring-stays : (ends : Ends) (name : Name) (end : Option ℕ) (list : List Expiring) → ends name ≡ end → AreExpiring ends list → AreExpiring (with_end ends name end) list
-AreExpiring-stays ends name end list told is =
-    AreExpiring-same ends (with_end ends name end) list (λ other. elim (same_name-tells other name) [
-      | inl same ↦ ap ends same.1 ∙ told ∙ sym (with_end-same ends name end) ∙ ap (with_end ends name end) (sym same.1)
-      | inr apart ↦ sym (with_end-other ends name end other apart.1)
-    ]) is
-
 -- the last of two ends of a name counts
 pub with_end-twice : (ends : Ends) (name : Name) (first end : Option ℕ) (other : Name) → with_end ends name end other ≡ with_end (with_end ends name first) name end other
 with_end-twice ends name first end other = elim (same_name-tells other name) [

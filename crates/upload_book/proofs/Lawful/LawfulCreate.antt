@@ -14,7 +14,7 @@ use Rattle.upload_book.specs.FirstChunk.{FirstChunk, count_all_first}
 use Rattle.upload_book.specs.Lawful.{IsTenantOf, IsUploadOf, IsConcatText, is_kept_metadata}
 use Rattle.upload_book.specs.NewUpload.{NewUpload}
 use Rattle.upload_book.specs.TenantBook.{TenantBook, with_new}
-use Rattle.upload_book.specs.Upload.{Upload, offset_of, is_complete, is_reached}
+use Rattle.upload_book.specs.Upload.{Upload, offset_of, is_reached}
 use Rattle.upload_book.proofs.Charge.ChargeLemmas.{new-own}
 use Rattle.upload_book.proofs.Lawful.FirstRefusal.{test-passed}
 use Rattle.upload_book.proofs.Lawful.LawfulAppend.{ends-renewed, ends_within, fewer_blocks, fewer_fit, IsOfKind-whole, not_above}

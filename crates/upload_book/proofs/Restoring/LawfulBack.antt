@@ -1,5 +1,5 @@
 -- Whatever is put back, a lawful book stays lawful.
-use Rattle.std.proofs.Common.{◌≡◌, ◌≢◌, ◌⊎◌, ℕ, suc, ◌+◌, ◌-◌, ◌<◌, ◌≤◌, Bool, true, false, ◌&&◌, ◌||◌, eqb, ltb, leb, not, List, [], ◌∷◌, ◌++◌, map, length, get_or, Option, Some, None, IfSome, is_some, unwrap_or, true≢false, refl, inl, inr, sym, ap, subst, ◌∙◌, arith, append_assoc}
+use Rattle.std.proofs.Common.{◌≡◌, ◌≢◌, ◌⊎◌, ℕ, suc, ◌+◌, ◌-◌, ◌<◌, ◌≤◌, Bool, true, false, ◌||◌, eqb, ltb, leb, not, List, [], ◌∷◌, ◌++◌, map, length, get_or, Option, Some, None, IfSome, unwrap_or, true≢false, refl, inl, inr, sym, ap, subst, ◌∙◌, arith, append_assoc}
 use Rattle.std.specs.List.{All, Contains, list_all, zip}
 use Rattle.std.specs.Option.{option_and_then, option_map}
 use Rattle.std.proofs.lemmas.Bool.{and_parts, eqb-true, leb-false, ltb-false, not-false}
@@ -29,7 +29,7 @@ use Rattle.upload_book.proofs.Charge.ChargeLemmas.{sources-given}
 use Rattle.upload_book.proofs.Charge.InUse.{Contains-cases, Contains-first, Contains-later, Contains-none}
 use Rattle.upload_book.proofs.Lawful.Entries.{kept_in-All, kept_in-contains, kept_in-push}
 use Rattle.upload_book.proofs.Lawful.FirstRefusal.{test-passed}
-use Rattle.upload_book.proofs.Lawful.LawfulAppend.{complete_tells, ends_within}
+use Rattle.upload_book.proofs.Lawful.LawfulAppend.{ends_within}
 use Rattle.upload_book.proofs.Lawful.LawfulConcat.{complete-from_test}
 use Rattle.upload_book.proofs.Lawful.LawfulSteps.{HasSharedParts, HasSharedParts-none, IsLawful-with_tenant_book, IsLawful-with_tenant_book-same, IsTenantOf-with_new, IsUploadOf-beside}
 use Rattle.upload_book.proofs.Restoring.SegmentsBack.{AreSame, own-segment, sent-same}

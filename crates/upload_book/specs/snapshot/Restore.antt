@@ -1,5 +1,5 @@
 -- How a book is put back from a snapshot of it, piece by piece: what a piece is, when it is accepted, and the book after it.
-use Rattle.std.specs.Prelude.{◌≡◌, ℕ, ◌+◌, ◌-◌, ◌<◌, ◌≤◌, Bool, true, false, not, ◌&&◌, ◌||◌, List, [], ◌∷◌, ◌++◌, flat_map, length, map, zip, nat_lt, nat_le, ◌==◌, Option, Some, None, option_and_then, option_map, unwrap_or, IsTrue, All, if◌then◌else◌, ⊤}
+use Rattle.std.specs.Prelude.{◌≡◌, ℕ, ◌+◌, ◌-◌, ◌<◌, ◌≤◌, Bool, true, not, ◌&&◌, ◌||◌, List, [], ◌∷◌, ◌++◌, flat_map, length, map, zip, nat_lt, nat_le, ◌==◌, Option, Some, None, option_and_then, option_map, unwrap_or, IsTrue, All, if◌then◌else◌, ⊤}
 use Rattle.std.specs.List.{list_all}
 use Rattle.std.specs.Option.{option_map_or}
 use Rattle.upload_book.specs.Append.{is_final, is_too_long}

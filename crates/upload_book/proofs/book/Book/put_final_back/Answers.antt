@@ -61,7 +61,7 @@ put_back-requires c =
 pub set_end-requires-clause-known : goal.set_end-requires-clause-known
 set_end-requires-clause-known c =
     let s : IsRead (the_view c.self.inside) c.args.self.now c.args.ready c.from-place.result = record { kept = c.self.invariant; is = c.self.view_is; asked = c.requires; at = c.from-place.ensures } in
-    rw c.created-created.ensures (renewed-known (renewed s))
+    rw c.created-back.ensures (renewed-known (renewed s))
 
 pub set_end-requires-clause-room : goal.set_end-requires-clause-room
 set_end-requires-clause-room c =
@@ -73,7 +73,7 @@ pub set_end-requires-clause-more : goal.set_end-requires-clause-more
 set_end-requires-clause-more c =
     let b = the_view c.self.inside in
     let s : IsRead b c.args.self.now c.args.ready c.from-place.result = record { kept = c.self.invariant; is = c.self.view_is; asked = c.requires; at = c.from-place.ensures } in
-    rw c.created-created.ensures (λ none some. subst (λ n. length b.expiries.list < n) (expiries-room_is b c.self.invariant) (renewed-room (renewed s) none some))
+    rw c.created-back.ensures (λ none some. subst (λ n. length b.expiries.list < n) (expiries-room_is b c.self.invariant) (renewed-room (renewed s) none some))
 
 pub overflow_add-self : goal.overflow_add-self
 overflow_add-self c =
@@ -86,7 +86,7 @@ invariant_of-self c =
     let b = the_view c.self.inside in
     let r = c.args.ready in
     let s : IsRead b c.args.self.now r c.from-place.result = record { kept = c.self.invariant; is = c.self.view_is; asked = c.requires; at = c.from-place.ensures } in
-    let ends = rw c.created-created.ensures at c.set_end.ensures.ends in
+    let ends = rw c.created-back.ensures at c.set_end.ensures.ends in
     IsBook-final b r.tenant r.upload (final s) c.put_back.new.self (b.charged + c.put_back.result) c.set_end.new.self (follows s c.put_back.new.self c.put_back.ensures.plain c.put_back.ensures.sizes c.put_back.ensures.room_stays) (ap (λ (n : ℕ). b.charged + n) (taken s c.put_back.result c.put_back.ensures.taken))
     (record { expiries = AreExpiries-renewed (renewed s) c.set_end.new.self.list (ends (ends_of (plain_of b)) c.self.invariant.expiries (renewed s).was); room = c.set_end.ensures.room_stays })
 
