@@ -13,7 +13,7 @@ const GET: &[u8] = b"\r\n\r\nGET /files/acme/1 HTTP/1.1\r\nHost: x\r\n\r\n";
 
 const CREATED: &[u8] =
     b"HTTP/1.1 201 Created\r\nDate: Thu, 01 Jan 1970 00:16:40 GMT\r\nTus-Resumable: 1.0.0\r\n\
-Location: /files/acme/1\r\n\r\n";
+Location: /files/acme/1\r\nContent-Length: 0\r\n\r\n";
 
 const TOLD: &[u8] =
     b"HTTP/1.1 200 OK\r\nDate: Thu, 01 Jan 1970 00:16:40 GMT\r\nTus-Resumable: 1.0.0\r\n\
